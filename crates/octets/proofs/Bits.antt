@@ -1,0 +1,34 @@
+-- Exclusive or and conjunction, bit by bit: each law follows from the library's law on the two lowest bits.
+-- Assumes nothing.
+use mathlib.Core.Path.{_≡_, refl, sym, ap, ap₂, _∙_}
+use Prim.Native.Nat.{ℕ, zero, suc, _+_, _*_, _/_, _%_, _^_, _<_}
+use native.Mathlib.Nat.{add-comm, mod-lt}
+use native.Mathlib.Omega.{arith}
+use lib.Arith.{bin-ind}
+use lib.Bits.{bitXor, bitAnd, xor-add-and, xor-zero-l, xor-self, xor-shr, and-shr, and-step}
+
+-- the lowest bit of an exclusive or is the sum modulo 2
+pub xor-low : (x y : ℕ) → bitXor x y % 2 ≡ (x % 2 + y % 2) % 2
+xor-low x y = omega (arith, xor-add-and x y)
+
+-- a number is its half and its lowest bit
+halves : (x y : ℕ) → x / 2 ≡ y / 2 → x % 2 ≡ y % 2 → x ≡ y
+halves x y h l = omega arith
+
+pub xor-half : (x y : ℕ) → bitXor x y / 2 ≡ bitXor (x / 2) (y / 2)
+xor-half x y = xor-shr x y 1
+
+pub xor-twice : (x z : ℕ) → bitXor (bitXor x z) z ≡ x
+xor-twice =
+    bin-ind (λ (x : ℕ). (z : ℕ) → bitXor (bitXor x z) z ≡ x)
+    (λ z. ap (λ (y : ℕ). bitXor y z) (xor-zero-l z) ∙ xor-self z)
+    (λ x h z.
+        halves (bitXor (bitXor x z) z) x
+        (xor-half (bitXor x z) z ∙ ap (λ (y : ℕ). bitXor y (z / 2)) (xor-half x z) ∙ h (z / 2))
+        (let outer : bitXor (bitXor x z) z % 2 ≡ (bitXor x z % 2 + z % 2) % 2 = xor-low (bitXor x z) z in
+         let inner : bitXor x z % 2 ≡ (x % 2 + z % 2) % 2 = xor-low x z in
+         omega arith))
+
+-- bit k of an exclusive or and of a conjunction
+pub xor-bit : (x y k : ℕ) → bitXor x y / 2 ^ k % 2 ≡ (x / 2 ^ k % 2 + y / 2 ^ k % 2) % 2
+xor-bit x y k = ap (λ (v : ℕ). v % 2) (xor-shr x y k) ∙ xor-low (x / 2 ^ k) (y / 2 ^ k)

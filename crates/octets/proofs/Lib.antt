@@ -1,0 +1,4 @@
+pub mod Bits
+pub mod Numbers
+pub mod Shifts
+pub mod Streams

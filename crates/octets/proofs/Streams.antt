@@ -1,0 +1,119 @@
+-- The laws of bytes under any keystream. Each goes along the bytes, and moves the keystream on by one at each.
+-- Assumes nothing.
+use mathlib.Core.Path.{_≡_, refl, sym, ap, ap₂, _∙_}
+use Prim.Native.Nat.{ℕ, zero, suc, _+_, _*_, _/_, _%_, _^_, _<_, _≤_}
+use mathlib.Core.List.{List, [], _∷_, _++_, append-assoc}
+use native.Mathlib.Nat.{add-zero, zero-add, add-assoc, add-comm, suc-add, pow-suc, le-of-suc-le-suc}
+use native.Mathlib.Numerals.{one-add}
+use native.Mathlib.Omega.{arith}
+use lib.Bits.{bitXor, xor-shr, xor-mod}
+use lib.ListN.{length, getD, take, drop, length-append, length-take, length-drop, take-append-drop}
+use lib.Pow.{pow-add}
+use lib.Seq.{take-add, take-at, drop-at, drop-drop, drop-cons, length-take-le, sets, sets-eq, paste-zero}
+use Rattle.octets.specs.Digits.{number, numberAfter, digits}
+use Rattle.octets.specs.Stream.{Keystream, from, enciphered, placed}
+use Rattle.octets.proofs.Bits.{xor-twice}
+use Rattle.octets.proofs.Numbers.{Below, digits-number}
+
+from-zero : (k : Keystream) → from 0 k ≡ k
+from-zero k = λ i n. k (zero-add n i)
+
+from-from : (m n : ℕ) (k : Keystream) → from m (from n k) ≡ from (n + m) k
+from-from m n k = λ i j. k (sym (add-assoc n m j) i)
+
+pub length-enciphered : (k : Keystream) (xs : List ℕ) → length (enciphered k xs) ≡ length xs
+unfolding enciphered
+length-enciphered k [] = refl
+length-enciphered k (x ∷ xs) = ap suc (length-enciphered (from 1 k) xs)
+
+-- a stream taken in two calls, cut anywhere, is the stream taken in one
+pub enciphered-append : (k : Keystream) (xs ys : List ℕ) → enciphered k (xs ++ ys) ≡ enciphered k xs ++ enciphered (from (length xs) k) ys
+unfolding enciphered
+enciphered-append k [] ys = ap (λ (l : Keystream). enciphered l ys) (sym (from-zero k))
+enciphered-append k (x ∷ xs) ys =
+    ap (λ (l : List ℕ). bitXor x (k 0) ∷ l)
+    (enciphered-append (from 1 k) xs ys
+    ∙ ap (λ (l : Keystream). enciphered (from 1 k) xs ++ enciphered l ys)
+        (from-from (length xs) 1 k ∙ ap (λ (n : ℕ). from n k) (one-add (length xs))))
+
+-- to encipher twice under the same keystream is to do nothing
+pub enciphered-twice : (k : Keystream) (xs : List ℕ) → enciphered k (enciphered k xs) ≡ xs
+unfolding enciphered
+enciphered-twice k [] = refl
+enciphered-twice k (x ∷ xs) = ap₂ (λ (y : ℕ) (l : List ℕ). y ∷ l) (xor-twice x (k 0)) (enciphered-twice (from 1 k) xs)
+
+-- only as much of the keystream counts as there are bytes
+pub enciphered-same : (k l : Keystream) (xs : List ℕ) → ((i : ℕ) → i < length xs → k i ≡ l i) → enciphered k xs ≡ enciphered l xs
+unfolding enciphered
+enciphered-same k l [] e = refl
+enciphered-same k l (x ∷ xs) e =
+    ap₂ (λ (y : ℕ) (zs : List ℕ). bitXor x y ∷ zs) (e 0 (omega arith))
+    (enciphered-same (from 1 k) (from 1 l) xs (λ i h. e (1 + i) (omega arith)))
+
+-- one byte
+pub enciphered-one : (k : Keystream) (x : ℕ) → enciphered k (x ∷ []) ≡ bitXor x (k 0) ∷ []
+unfolding enciphered
+enciphered-one k x = refl
+
+-- ---- a number's bytes, enciphered all at once
+
+pub power-of-bytes : (n : ℕ) → 256 ^ n ≡ 2 ^ (8 * n)
+power-of-bytes zero = refl
+power-of-bytes (suc n) =
+    pow-suc 256 n ∙ ap (λ (v : ℕ). v * 256) (power-of-bytes n) ∙ sym (pow-add 2 (8 * n) 8)
+    ∙ ap (λ (e : ℕ). 2 ^ e) (omega arith)
+
+byte-xor : (x y n : ℕ) → bitXor x y / 256 ^ n % 256 ≡ bitXor (x / 256 ^ n % 256) (y / 256 ^ n % 256)
+byte-xor x y n =
+    rw (power-of-bytes n)
+    (ap (λ (v : ℕ). v % 256) (xor-shr x y (8 * n)) ∙ xor-mod (x / 2 ^ (8 * n)) (y / 2 ^ (8 * n)) 8)
+
+-- byte number i of the last n bytes of z
+abbrev pub byteOfWord : ℕ → ℕ → Keystream
+byteOfWord n z = λ i. getD (digits 256 n z) i 0
+
+digits-xor : (n x z : ℕ) → digits 256 n (bitXor x z) ≡ enciphered (byteOfWord n z) (digits 256 n x)
+unfolding digits enciphered
+digits-xor zero x z = refl
+digits-xor (suc n) x z =
+    ap₂ (λ (d : ℕ) (ds : List ℕ). d ∷ ds) (byte-xor x z n)
+    (digits-xor n x z
+    ∙ ap (λ (k : Keystream). enciphered k (digits 256 n x)) (λ j i. getD (digits 256 (suc n) z) (sym (one-add i) j) 0))
+
+-- the exclusive or of two words, written as bytes, is the first word's bytes under the second's
+pub word-enciphered : (xs : List ℕ) (z : ℕ) → Below 256 xs → digits 256 (length xs) (bitXor (number 256 xs) z) ≡ enciphered (byteOfWord (length xs) z) xs
+word-enciphered xs z b =
+    digits-xor (length xs) (number 256 xs) z
+    ∙ ap (λ (l : List ℕ). enciphered (byteOfWord (length xs) z) l) (digits-number 256 (omega arith) xs b)
+
+-- ---- runs placed in a buffer
+
+module _ {A : Type 0} where
+  pub placed-nothing : (buffer : List A) (at : ℕ) → placed buffer at [] ≡ buffer
+  unfolding placed
+  placed-nothing buffer at = sym (paste-zero buffer at [])
+
+  pub length-placed : (buffer : List A) (at : ℕ) (run : List A) → at + length run ≤ length buffer → length (placed buffer at run) ≡ length buffer
+  unfolding placed
+  length-placed buffer at run h = simp (length-append, length-take, length-drop) (omega arith)
+
+  -- stores one after the other are a run
+  pub stores-placed : (buffer : List A) (at : ℕ) (run : List A) → at + length run ≤ length buffer → sets buffer at run ≡ placed buffer at run
+  unfolding placed
+  stores-placed buffer at run h = sets-eq run buffer at h
+
+  -- two runs, the second right behind the first
+  pub placed-append : (buffer : List A) (at : ℕ) (xs ys : List A) → at + length xs + length ys ≤ length buffer
+      → placed (placed buffer at xs) (at + length xs) ys ≡ placed buffer at (xs ++ ys)
+  unfolding placed
+  placed-append buffer at xs ys h =
+      let n : ℕ = at + length xs in
+      let front : List A = take at buffer ++ xs in
+      let long : length front ≡ n = simp (length-append, length-take) (omega arith) in
+      let rest : drop (n + length ys) (front ++ drop n buffer) ≡ drop (n + length ys) buffer =
+          sym (drop-drop (length ys) n (front ++ drop n buffer))
+          ∙ ap (drop (length ys)) (drop-at front (drop n buffer) n long)
+          ∙ drop-drop (length ys) n buffer in
+      ap₂ (λ (l r : List A). l ++ ys ++ r) (take-at front (drop n buffer) n long) rest
+      ∙ ap₂ (λ (l : List A) (k : ℕ). l ++ drop k buffer) (append-assoc (take at buffer) xs ys)
+          (add-assoc at (length xs) (length ys) ∙ ap (λ (k : ℕ). at + k) (sym (length-append xs ys)))

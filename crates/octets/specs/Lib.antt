@@ -1,0 +1,4 @@
+pub mod Digits
+pub mod Outcome
+pub mod Refusals
+pub mod Stream

@@ -1,0 +1,16 @@
+-- What a call with one lent buffer comes to: its answer, and what the buffer holds afterwards.
+-- Every promise of a public call is an equation, "the outcome is what DEFINITION says of the inputs".
+-- Assumes nothing.
+use mathlib.Core.Path.{_≡_, _∙_, sym}
+use mathlib.Core.List.{List}
+
+pub record Outcome (A B : Type 0) : Type 0 where
+  pub answer : A
+  pub buffer : List B
+
+abbrev pub outcome : {A B : Type 0} → A → List B → Outcome A B
+outcome a b = record { answer = a; buffer = b }
+
+-- nothing else meets such a promise: two outcomes that meet it are equal
+pub only-one : {A : Type 0} {one other promised : A} → one ≡ promised → other ≡ promised → one ≡ other
+only-one p q = p ∙ sym q

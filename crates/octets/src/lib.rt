@@ -1,0 +1,48 @@
+ghost use mathlib.Core.Path.{_≡_};
+ghost use Prim.Native.Nat.{_-_, min};
+ghost use Rattle.octets.specs.Digits.{numberAt};
+ghost use Rattle.octets.specs.Stream.{numberPlaced};
+
+// How many of n elements from `at` a run of `len` has.
+fn there(len: usize, at: usize, n: usize) -> usize
+    ensures { λ r. ⌜ r ≡ min n (len - at) ⌝ }
+{
+    if len <= at {
+        return 0;
+    }
+    if n < len - at { n } else { len - at }
+}
+
+// The number that n bytes from `at` make, the most significant first.
+pub fn number_at(s: &[u8], at: usize, n: usize) -> u64
+    ensures { λ r. ⌜ r ≡ numberAt (now (s .entry)) at n ⌝ }
+{
+    let count = there(s.len(), at, n);
+    let mut value: u64 = 0;
+    let mut i = 0;
+    while i < count {
+        value = (value << 8) | (s[at + i] as u64);
+        i += 1;
+    }
+    value
+}
+
+// Writes the last n bytes of a number from `at`, the most significant first, if they have room there.
+pub fn write_number(d: &mut [u8], at: usize, n: usize, value: u64)
+    ensures { λ _. ⌜ now (d .exit) ≡ numberPlaced (now (d .entry)) at n value ⌝ }
+{
+    if 8 < n {
+        return;
+    }
+    if d.len() < at {
+        return;
+    }
+    if d.len() - at < n {
+        return;
+    }
+    let mut i = 0;
+    while i < n {
+        d[at + i] = ((value >> (8 * (n - 1 - i))) % 256) as u8;
+        i += 1;
+    }
+}
