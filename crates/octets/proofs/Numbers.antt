@@ -1,17 +1,30 @@
 -- The laws of digits: what stands before is scaled by the base for each digit, so reading and writing are inverse.
 -- Assumes nothing.
-use mathlib.Core.Path.{_≡_, refl, sym, ap, ap₂, _∙_}
+use mathlib.Core.Path.{_≡_, refl, sym, ap, ap₂, subst, _∙_}
 use Prim.Native.Nat.{ℕ, zero, suc, _+_, _-_, _*_, _/_, _%_, _^_, _<_}
 use mathlib.Core.List.{List, [], _∷_, _++_}
 use native.Mathlib.Nat.{add-zero, zero-add, zero-mul, mul-one, add-mul, mul-assoc, mul-comm, pow-suc, pow-succ', pow-zero, mod-one, mod-lt, mod-eq-of-lt, mul-add-mod-self-right, one-le-pow}
 use native.Mathlib.Omega.{arith}
 use lib.Arith.{digits-lt, digits-div, digits-mod, mod-mul}
-use lib.ListN.{length, getD}
+use lib.ListN.{length, getD, take, drop}
+use lib.Seq.{getD-drop}
 use Rattle.octets.specs.Digits.{number, numberAfter, digits, bitsOf}
 
 -- every element is below the bound
 abbrev pub Below : ℕ → List ℕ → Type 0
 Below bound xs = (i : ℕ) → getD xs i 0 < bound
+
+pub below-take : {bound : ℕ} (n : ℕ) (xs : List ℕ) → Below bound xs → Below bound (take n xs)
+below-take zero xs b i = nothing (b 0)
+  where
+    nothing : {x bound : ℕ} → x < bound → 0 < bound
+    nothing h = omega arith
+below-take (suc n) [] b i = b i
+below-take (suc n) (x ∷ xs) b zero = b 0
+below-take (suc n) (x ∷ xs) b (suc i) = below-take n xs (λ k. b (suc k)) i
+
+pub below-drop : {bound : ℕ} (n : ℕ) (xs : List ℕ) → Below bound xs → Below bound (drop n xs)
+below-drop {bound} n xs b i = subst (λ (x : ℕ). x < bound) (sym (getD-drop n xs i 0)) (b (n + i))
 
 pub after-append : (base before : ℕ) (xs ys : List ℕ) → numberAfter base before (xs ++ ys) ≡ numberAfter base (numberAfter base before xs) ys
 unfolding numberAfter
@@ -38,7 +51,7 @@ pub number-append : (base : ℕ) (xs ys : List ℕ) → number base (xs ++ ys) �
 number-append base xs ys = after-append base 0 xs ys ∙ after-scaled base (number base xs) ys
 
 -- a first digit counts for base ^ n
-number-cons : (base x : ℕ) (xs : List ℕ) → number base (x ∷ xs) ≡ x * base ^ length xs + number base xs
+pub number-cons : (base x : ℕ) (xs : List ℕ) → number base (x ∷ xs) ≡ x * base ^ length xs + number base xs
 unfolding numberAfter
 number-cons base x xs =
     after-scaled base (0 * base + x) xs

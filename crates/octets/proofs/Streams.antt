@@ -50,6 +50,10 @@ enciphered-same k l (x ∷ xs) e =
     ap₂ (λ (y : ℕ) (zs : List ℕ). bitXor x y ∷ zs) (e 0 (omega arith))
     (enciphered-same (from 1 k) (from 1 l) xs (λ i h. e (1 + i) (omega arith)))
 
+pub enciphered-nothing : (k : Keystream) → enciphered k [] ≡ []
+unfolding enciphered
+enciphered-nothing k = refl
+
 -- one byte
 pub enciphered-one : (k : Keystream) (x : ℕ) → enciphered k (x ∷ []) ≡ bitXor x (k 0) ∷ []
 unfolding enciphered
@@ -117,3 +121,21 @@ module _ {A : Type 0} where
       ap₂ (λ (l r : List A). l ++ ys ++ r) (take-at front (drop n buffer) n long) rest
       ∙ ap₂ (λ (l : List A) (k : ℕ). l ++ drop k buffer) (append-assoc (take at buffer) xs ys)
           (add-assoc at (length xs) (length ys) ∙ ap (λ (k : ℕ). at + k) (sym (length-append xs ys)))
+
+-- The input enciphered as far as `at`, and then m bytes further: what a call that goes on from there has to write.
+pub placed-enciphered : (k : Keystream) (input output : List ℕ) (at m : ℕ) → at + m ≤ length input → at + m ≤ length output
+    → placed (placed output 0 (enciphered k (take at input))) at (enciphered (from at k) (take m (drop at input)))
+    ≡ placed output 0 (enciphered k (take (at + m) input))
+placed-enciphered k input output at m hi ho =
+    let taken : length (take at input) ≡ at = length-take-le at input (omega arith) in
+    let front : List ℕ = enciphered k (take at input) in
+    let more : List ℕ = enciphered (from at k) (take m (drop at input)) in
+    let long : length front ≡ at = length-enciphered k (take at input) ∙ taken in
+    let short : length more ≡ m = length-enciphered (from at k) (take m (drop at input)) ∙ length-take-le m (drop at input) (simp length-drop (omega arith)) in
+    let place : at ≡ 0 + length front = omega arith in
+    ap (λ (p : ℕ). placed (placed output 0 front) p more) place
+    ∙ placed-append output 0 front more (omega arith)
+    ∙ ap (placed output 0)
+        (ap (λ (p : ℕ). front ++ enciphered (from p k) (take m (drop at input))) (sym taken)
+        ∙ sym (enciphered-append k (take at input) (take m (drop at input)))
+        ∙ ap (enciphered k) (sym (take-add at m input)))

@@ -8,10 +8,11 @@ use native.Mathlib.Numerals.{add-one}
 use native.Mathlib.Omega.{arith}
 use lib.ListN.{length, getD}
 use lib.Bits.{xor-lt, and-lt}
-use lib.Pow.{pow-pos, shr-lt, shr-shr}
+use lib.Pow.{pow-pos, shr-lt, shr-shr, mod-mod-pow, low}
 use Rattle.octets.specs.Digits.{number, numberAfter}
 use Rattle.octets.specs.Stream.{Keystream, from}
 use Rattle.octets.proofs.Numbers.{Below, after-append}
+use Rattle.trivium.specs.Calls.{skipping}
 use Rattle.trivium.specs.Registers.{State, newA, newB, newC, moved, next, steps, outputBit}
 use Rattle.trivium.specs.Keystream.{bits, keystream}
 use Rattle.trivium.specs.Record.{state, packed}
@@ -65,7 +66,7 @@ unfolding bits
 length-bits zero s = refl
 length-bits (suc n) s = ap suc (length-bits n (next s))
 
-bits-below : (n : ℕ) (s : State) → Below 2 (bits n s)
+pub bits-below : (n : ℕ) (s : State) → Below 2 (bits n s)
 unfolding bits outputBit
 bits-below zero s i = omega arith
 bits-below (suc n) s zero = mod-lt _ (omega arith)
@@ -82,19 +83,19 @@ number-bits-suc n s =
 -- ---- 64 steps at once
 
 -- the words that 64 steps push into the registers, and the word that they put out
-pub wordA : State → ℕ
+unfoldable pub wordA : State → ℕ
 wordA s = newWord 111 66 69 (s .c) (s .a)
 
-pub wordB : State → ℕ
+unfoldable pub wordB : State → ℕ
 wordB s = newWord 93 66 78 (s .a) (s .b)
 
-pub wordC : State → ℕ
+unfoldable pub wordC : State → ℕ
 wordC s = newWord 84 69 87 (s .b) (s .c)
 
-pub wordZ : State → ℕ
+unfoldable pub wordZ : State → ℕ
 wordZ s = sum (run 66 (s .c)) (run 111 (s .c)) (run 66 (s .a)) (run 93 (s .a)) (run 69 (s .b)) (run 84 (s .b))
 
-abbrev after : State → ℕ → ℕ → State
+abbrev pub after : State → ℕ → ℕ → State
 after s n k =
     record {
       a = grown 93 (s .a) n (wordA s / 2 ^ k);
@@ -118,16 +119,28 @@ word-z s =
     (xor-lt 64 _ _ (run-word 69 (s .b)) (run-word 84 (s .b)))
 
 -- the first n bits of a word
-front : (v n k : ℕ) → n + k ≡ 64 → v < 2 ^ 64 → v / 2 ^ k < 2 ^ n
+pub front : (v n k : ℕ) → n + k ≡ 64 → v < 2 ^ 64 → v / 2 ^ k < 2 ^ n
 front v n k e h = shr-lt n k (subst (λ (p : ℕ). v < 2 ^ p) (sym e) h)
+
+pub word-a : (s : State) → wordA s < 2 ^ 64
+unfolding wordA
+word-a s = new-word 111 66 69 (s .c) (s .a)
+
+pub word-b : (s : State) → wordB s < 2 ^ 64
+unfolding wordB
+word-b s = new-word 93 66 78 (s .a) (s .b)
+
+pub word-c : (s : State) → wordC s < 2 ^ 64
+unfolding wordC
+word-c s = new-word 84 69 87 (s .b) (s .c)
 
 -- each register after n of the 64 steps has the first n bits of its word behind what it had
 next-after : (s : State) (n k : ℕ) → n + suc k ≡ 64 → next (after s n (suc k)) ≡ after s (suc n) k
 unfolding next wordA wordB wordC
 next-after s n k e =
-    let a : wordA s / 2 ^ suc k < 2 ^ n = front (wordA s) n (suc k) e (new-word 111 66 69 (s .c) (s .a)) in
-    let b : wordB s / 2 ^ suc k < 2 ^ n = front (wordB s) n (suc k) e (new-word 93 66 78 (s .a) (s .b)) in
-    let c : wordC s / 2 ^ suc k < 2 ^ n = front (wordC s) n (suc k) e (new-word 84 69 87 (s .b) (s .c)) in
+    let a : wordA s / 2 ^ suc k < 2 ^ n = front (wordA s) n (suc k) e (word-a s) in
+    let b : wordB s / 2 ^ suc k < 2 ^ n = front (wordB s) n (suc k) e (word-b s) in
+    let c : wordC s / 2 ^ suc k < 2 ^ n = front (wordC s) n (suc k) e (word-c s) in
     let more : (w x v new : ℕ) → new ≡ v / 2 ^ k % 2 → moved w (grown w x n (v / 2 ^ suc k)) new ≡ grown w x (suc n) (v / 2 ^ k) =
         λ w x v new p. ap (moved w (grown w x n (v / 2 ^ suc k))) p ∙ grown-more w x v n k in
     λ i.
@@ -150,9 +163,9 @@ partly s h zero k e =
     let last : k ≡ 64 = omega arith in
     (λ i.
         record {
-          a = grown-none 93 (s .a) (wordA s) (h .a) (new-word 111 66 69 (s .c) (s .a)) i;
-          b = grown-none 84 (s .b) (wordB s) (h .b) (new-word 93 66 78 (s .a) (s .b)) i;
-          c = grown-none 111 (s .c) (wordC s) (h .c) (new-word 84 69 87 (s .b) (s .c)) i
+          a = grown-none 93 (s .a) (wordA s) (h .a) (word-a s) i;
+          b = grown-none 84 (s .b) (wordB s) (h .b) (word-b s) i;
+          c = grown-none 111 (s .c) (wordC s) (h .c) (word-c s) i
         })
     ∙ ap (after s 0) (sym last)
 partly s h (suc n) k e =
@@ -163,9 +176,9 @@ partly s h (suc n) k e =
 output-after : (s : State) (n k : ℕ) → n + suc k ≡ 64 → outputBit (after s n (suc k)) ≡ wordZ s / 2 ^ k % 2
 unfolding wordA wordB wordC wordZ
 output-after s n k e =
-    let a : wordA s / 2 ^ suc k < 2 ^ n = front (wordA s) n (suc k) e (new-word 111 66 69 (s .c) (s .a)) in
-    let b : wordB s / 2 ^ suc k < 2 ^ n = front (wordB s) n (suc k) e (new-word 93 66 78 (s .a) (s .b)) in
-    let c : wordC s / 2 ^ suc k < 2 ^ n = front (wordC s) n (suc k) e (new-word 84 69 87 (s .b) (s .c)) in
+    let a : wordA s / 2 ^ suc k < 2 ^ n = front (wordA s) n (suc k) e (word-a s) in
+    let b : wordB s / 2 ^ suc k < 2 ^ n = front (wordB s) n (suc k) e (word-b s) in
+    let c : wordC s / 2 ^ suc k < 2 ^ n = front (wordC s) n (suc k) e (word-c s) in
     output-by (after s n (suc k)) (run 66 (s .c) / 2 ^ k) (run 111 (s .c) / 2 ^ k) (run 66 (s .a) / 2 ^ k) (run 93 (s .a) / 2 ^ k) (run 69 (s .b) / 2 ^ k) (run 84 (s .b) / 2 ^ k)
     (tap-grown 111 66 n k (s .c) (wordC s / 2 ^ suc k) (omega arith) (omega arith) e c)
     (tap-grown 111 111 n k (s .c) (wordC s / 2 ^ suc k) (omega arith) (omega arith) e c)
@@ -191,3 +204,50 @@ put-out s h (suc n) k e =
   where
     halves : (v : ℕ) → v / 2 * 2 + v % 2 ≡ v
     halves v = omega arith
+
+-- ---- whole strides
+
+-- all 64 bits of a word: nothing is left off
+pub whole-word : (v : ℕ) → v / 2 ^ 0 ≡ v
+whole-word v = omega arith
+
+-- what a register holds newest after 64 steps is its word
+newest : (p x v : ℕ) → v < 2 ^ 64 → grown (p + 64) x 64 (v / 2 ^ 0) % 2 ^ 64 ≡ v
+newest p x v h =
+    ap (λ (r : ℕ). grown (p + 64) x 64 r % 2 ^ 64) (whole-word v)
+    ∙ mod-mod-pow (x * 2 ^ 64 + v) p 64
+    ∙ low x 64 h
+
+pub record Strides (s : State) : Type 0 where
+  pub z : number 2 (bits 64 s) ≡ wordZ s
+  pub a : steps 64 s .a % 2 ^ 64 ≡ wordA s
+  pub b : steps 64 s .b % 2 ^ 64 ≡ wordB s
+  pub c : steps 64 s .c % 2 ^ 64 ≡ wordC s
+
+pub strides : (s : State) → Held s → Strides s
+strides s h =
+    record {
+      z = put-out s h 64 0 refl ∙ whole-word (wordZ s);
+      a = ap (λ (t : State). t .a % 2 ^ 64) (partly s h 64 0 refl) ∙ newest 29 (s .a) (wordA s) (word-a s);
+      b = ap (λ (t : State). t .b % 2 ^ 64) (partly s h 64 0 refl) ∙ newest 20 (s .b) (wordB s) (word-b s);
+      c = ap (λ (t : State). t .c % 2 ^ 64) (partly s h 64 0 refl) ∙ newest 47 (s .c) (wordC s) (word-c s)
+    }
+
+-- ---- whole bytes passed over
+
+pub state-skip : (r : Registers) (n : ℕ) → state (skipping r n) ≡ steps (8 * n) (state r)
+unfolding skipping
+state-skip r n = state-packed (steps (8 * n) (state r)) (held-steps (8 * n) (state r) (held-state r))
+
+-- n bytes and then m bytes are n + m bytes
+pub steps-bytes : (n m : ℕ) (s : State) → steps (8 * (n + m)) s ≡ steps (8 * m) (steps (8 * n) s)
+steps-bytes n m s = ap (λ (k : ℕ). steps k s) scaled ∙ steps-add (8 * n) (8 * m) s
+  where
+    scaled : 8 * (n + m) ≡ 8 * n + 8 * m
+    scaled = omega arith
+
+pub skip-add : (r : Registers) (n m : ℕ) → skipping (skipping r n) m ≡ skipping r (n + m)
+unfolding skipping
+skip-add r n m =
+    ap (λ (t : State). packed (steps (8 * m) t)) (state-skip r n)
+    ∙ ap packed (sym (steps-bytes n m (state r)))
