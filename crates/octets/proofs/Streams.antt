@@ -139,3 +139,23 @@ placed-enciphered k input output at m hi ho =
         (ap (λ (p : ℕ). front ++ enciphered (from p k) (take m (drop at input))) (sym taken)
         ∙ sym (enciphered-append k (take at input) (take m (drop at input)))
         ∙ ap (enciphered k) (sym (take-add at m input)))
+
+-- what a run at the front of a buffer leaves there, and behind it
+pub take-placed : {A : Type 0} (buffer run : List A) → length run ≤ length buffer → take (length run) (placed buffer 0 run) ≡ run
+unfolding placed
+take-placed buffer run h = take-at run (drop (0 + length run) buffer) (length run) refl
+
+pub drop-placed : {A : Type 0} (buffer run : List A) → length run ≤ length buffer → drop (length run) (placed buffer 0 run) ≡ drop (length run) buffer
+unfolding placed
+drop-placed buffer run h = drop-at run (drop (0 + length run) buffer) (length run) refl ∙ ap (λ (n : ℕ). drop n buffer) (zero-add (length run))
+
+-- two runs at the front are the second placed behind the first
+pub placed-cut : {A : Type 0} (buffer xs ys : List A) → length xs + length ys ≤ length buffer
+    → placed buffer 0 (xs ++ ys) ≡ xs ++ placed (drop (length xs) buffer) 0 ys
+unfolding placed
+placed-cut buffer xs ys h =
+    append-assoc xs ys (drop (0 + length (xs ++ ys)) buffer)
+    ∙ ap (λ (l : List _). xs ++ (ys ++ l))
+        (ap (λ (n : ℕ). drop n buffer) (zero-add (length (xs ++ ys)) ∙ length-append xs ys)
+        ∙ sym (drop-drop (length ys) (length xs) buffer)
+        ∙ ap (λ (n : ℕ). drop n (drop (length xs) buffer)) (sym (zero-add (length ys))))

@@ -1,4 +1,5 @@
 pub mod Bytes
 pub mod Loading
 pub mod Steps
+pub mod Theorems
 pub mod Words

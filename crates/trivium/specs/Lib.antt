@@ -1,4 +1,5 @@
 pub mod Calls
+pub mod Engines
 pub mod Keystream
 pub mod Record
 pub mod Registers
