@@ -23,11 +23,11 @@ xor-twice =
     bin-ind (λ (x : ℕ). (z : ℕ) → bitXor (bitXor x z) z ≡ x)
     (λ z. ap (λ (y : ℕ). bitXor y z) (xor-zero-l z) ∙ xor-self z)
     (λ x h z.
-        halves (bitXor (bitXor x z) z) x
-        (xor-half (bitXor x z) z ∙ ap (λ (y : ℕ). bitXor y (z / 2)) (xor-half x z) ∙ h (z / 2))
-        (let outer : bitXor (bitXor x z) z % 2 ≡ (bitXor x z % 2 + z % 2) % 2 = xor-low (bitXor x z) z in
-         let inner : bitXor x z % 2 ≡ (x % 2 + z % 2) % 2 = xor-low x z in
-         omega arith))
+    halves (bitXor (bitXor x z) z) x
+    (xor-half (bitXor x z) z ∙ ap (λ (y : ℕ). bitXor y (z / 2)) (xor-half x z) ∙ h (z / 2))
+    (let outer : bitXor (bitXor x z) z % 2 ≡ (bitXor x z % 2 + z % 2) % 2 = xor-low (bitXor x z) z in
+    let inner : bitXor x z % 2 ≡ (x % 2 + z % 2) % 2 = xor-low x z in
+    omega arith))
 
 -- bit k of an exclusive or and of a conjunction
 pub xor-bit : (x y k : ℕ) → bitXor x y / 2 ^ k % 2 ≡ (x / 2 ^ k % 2 + y / 2 ^ k % 2) % 2

@@ -34,7 +34,7 @@ after-append base before (x ∷ xs) ys = after-append base (before * base + x) x
 scaled : (a base x p n : ℕ) → (a * base + x) * p + n ≡ a * (p * base) + ((0 * base + x) * p + n)
 scaled a base x p n =
     let outer : (a * base + x) * p ≡ a * (p * base) + x * p =
-        add-mul (a * base) x p ∙ ap (λ (v : ℕ). v + x * p) (mul-assoc a base p ∙ ap (λ (v : ℕ). a * v) (mul-comm base p)) in
+    add-mul (a * base) x p ∙ ap (λ (v : ℕ). v + x * p) (mul-assoc a base p ∙ ap (λ (v : ℕ). a * v) (mul-comm base p)) in
     let inner : (0 * base + x) * p ≡ x * p = ap (λ (v : ℕ). (v + x) * p) (zero-mul base) ∙ ap (λ (v : ℕ). v * p) (zero-add x) in
     omega arith
 
@@ -79,7 +79,7 @@ unfolding digits
 digits-same base p zero x y e = refl
 digits-same base p (suc n) x y e =
     let both : (x / base ^ n % base) * base ^ n + x % base ^ n ≡ (y / base ^ n % base) * base ^ n + y % base ^ n =
-        sym (place base p n x) ∙ e ∙ place base p n y in
+    sym (place base p n x) ∙ e ∙ place base p n y in
     let low : (v : ℕ) → v % base ^ n < base ^ n = λ v. mod-lt v (one-le-pow n base p) in
     ap₂ (λ (d : ℕ) (ds : List ℕ). d ∷ ds)
     (sym (digits-div (x / base ^ n % base) (low x)) ∙ ap (λ (v : ℕ). v / base ^ n) both ∙ digits-div (y / base ^ n % base) (low y))
@@ -133,6 +133,6 @@ bits-number before [] b = refl
 bits-number before (x ∷ xs) b =
     after-append 2 before (digits 2 8 x) (bitsOf xs)
     ∙ ap (λ (v : ℕ). numberAfter 2 v (bitsOf xs))
-        (after-scaled 2 before (digits 2 8 x)
-        ∙ ap₂ (λ (k v : ℕ). before * 2 ^ k + v) (length-digits 2 8 x) (number-digits 2 (omega arith) 8 x ∙ mod-eq-of-lt (b 0)))
+    (after-scaled 2 before (digits 2 8 x)
+    ∙ ap₂ (λ (k v : ℕ). before * 2 ^ k + v) (length-digits 2 8 x) (number-digits 2 (omega arith) 8 x ∙ mod-eq-of-lt (b 0)))
     ∙ bits-number (before * 256 + x) xs (λ i. b (suc i))

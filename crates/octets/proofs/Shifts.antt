@@ -18,7 +18,7 @@ pub moved-up : (n k x r : ℕ) → n + k ≡ 64 → r < 2 ^ n → bitOr (x * 2 ^
 moved-up n k x r e h =
     let whole : 64 ≡ k + n = omega arith in
     let scaled : x * 2 ^ n % 2 ^ 64 ≡ x % 2 ^ k * 2 ^ n =
-        ap₂ (λ (v p : ℕ). v % 2 ^ p) (sym (add-zero (x * 2 ^ n))) whole ∙ scaled-mod x n k 0 (pow-pos n) ∙ add-zero (x % 2 ^ k * 2 ^ n) in
+    ap₂ (λ (v p : ℕ). v % 2 ^ p) (sym (add-zero (x * 2 ^ n))) whole ∙ scaled-mod x n k 0 (pow-pos n) ∙ add-zero (x % 2 ^ k * 2 ^ n) in
     ap (λ (v : ℕ). bitOr v r) scaled
     ∙ or-shifted (x % 2 ^ k) n r h
     ∙ sym (ap (λ (p : ℕ). (x * 2 ^ n + r) % 2 ^ p) whole ∙ scaled-mod x n k r h)
@@ -30,7 +30,7 @@ multiple-mod m x y r =
     sym
     (ap (λ (v : ℕ). (v * y + r) % m) (sym (div-add-mod' x m))
     ∙ ap (λ (v : ℕ). (v + r) % m)
-        (add-mul (q * m) (x % m) y
-        ∙ ap (λ (v : ℕ). v + x % m * y) (mul-assoc q m y ∙ ap (λ (v : ℕ). q * v) (mul-comm m y) ∙ sym (mul-assoc q y m)))
+    (add-mul (q * m) (x % m) y
+    ∙ ap (λ (v : ℕ). v + x % m * y) (mul-assoc q m y ∙ ap (λ (v : ℕ). q * v) (mul-comm m y) ∙ sym (mul-assoc q y m)))
     ∙ ap (λ (v : ℕ). v % m) (add-assoc (q * y * m) (x % m * y) r)
     ∙ mul-add-mod-self-right (q * y) m (x % m * y + r))

@@ -34,7 +34,7 @@ enciphered-append k (x ∷ xs) ys =
     ap (λ (l : List ℕ). bitXor x (k 0) ∷ l)
     (enciphered-append (from 1 k) xs ys
     ∙ ap (λ (l : Keystream). enciphered (from 1 k) xs ++ enciphered l ys)
-        (from-from (length xs) 1 k ∙ ap (λ (n : ℕ). from n k) (one-add (length xs))))
+    (from-from (length xs) 1 k ∙ ap (λ (n : ℕ). from n k) (one-add (length xs))))
 
 -- to encipher twice under the same keystream is to do nothing
 pub enciphered-twice : (k : Keystream) (xs : List ℕ) → enciphered k (enciphered k xs) ≡ xs
@@ -115,12 +115,12 @@ module _ {A : Type 0} where
       let front : List A = take at buffer ++ xs in
       let long : length front ≡ n = simp (length-append, length-take) (omega arith) in
       let rest : drop (n + length ys) (front ++ drop n buffer) ≡ drop (n + length ys) buffer =
-          sym (drop-drop (length ys) n (front ++ drop n buffer))
-          ∙ ap (drop (length ys)) (drop-at front (drop n buffer) n long)
-          ∙ drop-drop (length ys) n buffer in
+      sym (drop-drop (length ys) n (front ++ drop n buffer))
+      ∙ ap (drop (length ys)) (drop-at front (drop n buffer) n long)
+      ∙ drop-drop (length ys) n buffer in
       ap₂ (λ (l r : List A). l ++ ys ++ r) (take-at front (drop n buffer) n long) rest
       ∙ ap₂ (λ (l : List A) (k : ℕ). l ++ drop k buffer) (append-assoc (take at buffer) xs ys)
-          (add-assoc at (length xs) (length ys) ∙ ap (λ (k : ℕ). at + k) (sym (length-append xs ys)))
+      (add-assoc at (length xs) (length ys) ∙ ap (λ (k : ℕ). at + k) (sym (length-append xs ys)))
 
 -- The input enciphered as far as `at`, and then m bytes further: what a call that goes on from there has to write.
 pub placed-enciphered : (k : Keystream) (input output : List ℕ) (at m : ℕ) → at + m ≤ length input → at + m ≤ length output
@@ -136,9 +136,9 @@ placed-enciphered k input output at m hi ho =
     ap (λ (p : ℕ). placed (placed output 0 front) p more) place
     ∙ placed-append output 0 front more (omega arith)
     ∙ ap (placed output 0)
-        (ap (λ (p : ℕ). front ++ enciphered (from p k) (take m (drop at input))) (sym taken)
-        ∙ sym (enciphered-append k (take at input) (take m (drop at input)))
-        ∙ ap (enciphered k) (sym (take-add at m input)))
+    (ap (λ (p : ℕ). front ++ enciphered (from p k) (take m (drop at input))) (sym taken)
+    ∙ sym (enciphered-append k (take at input) (take m (drop at input)))
+    ∙ ap (enciphered k) (sym (take-add at m input)))
 
 -- what a run at the front of a buffer leaves there, and behind it
 pub take-placed : {A : Type 0} (buffer run : List A) → length run ≤ length buffer → take (length run) (placed buffer 0 run) ≡ run
@@ -156,6 +156,6 @@ unfolding placed
 placed-cut buffer xs ys h =
     append-assoc xs ys (drop (0 + length (xs ++ ys)) buffer)
     ∙ ap (λ (l : List _). xs ++ (ys ++ l))
-        (ap (λ (n : ℕ). drop n buffer) (zero-add (length (xs ++ ys)) ∙ length-append xs ys)
-        ∙ sym (drop-drop (length ys) (length xs) buffer)
-        ∙ ap (λ (n : ℕ). drop n (drop (length xs) buffer)) (sym (zero-add (length ys))))
+    (ap (λ (n : ℕ). drop n buffer) (zero-add (length (xs ++ ys)) ∙ length-append xs ys)
+    ∙ sym (drop-drop (length ys) (length xs) buffer)
+    ∙ ap (λ (n : ℕ). drop n (drop (length xs) buffer)) (sym (zero-add (length ys))))

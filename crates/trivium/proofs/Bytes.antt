@@ -48,7 +48,7 @@ bytes-below (suc n) s (suc i) = bytes-below n (steps 8 s) i
 byte-more : (n : ℕ) (s : State) → number 2 (bits 8 s) * 256 ^ n + number 2 (bits (8 * n) (steps 8 s)) ≡ number 2 (bits (8 * suc n) s)
 byte-more n s =
     ap (λ (p : ℕ). number 2 (bits 8 s) * p + number 2 (bits (8 * n) (steps 8 s)))
-        (power-of-bytes n ∙ ap (λ (k : ℕ). 2 ^ k) (sym (length-bits (8 * n) (steps 8 s))))
+    (power-of-bytes n ∙ ap (λ (k : ℕ). 2 ^ k) (sym (length-bits (8 * n) (steps 8 s))))
     ∙ sym (number-append 2 (bits 8 s) (bits (8 * n) (steps 8 s)))
     ∙ ap (number 2) (sym (bits-add 8 (8 * n) s))
     ∙ ap (λ (k : ℕ). number 2 (bits k s)) scaled
@@ -68,9 +68,9 @@ bytes-number (suc n) s =
 word-bytes : (n : ℕ) (s : State) (i : ℕ) → i < n → byteOfWord n (number 2 (bits (8 * n) s)) i ≡ keystream s i
 word-bytes n s i h =
     ap (λ (l : List ℕ). getD l i 0)
-        (ap (digits 256 n) (sym (bytes-number n s))
-        ∙ ap (λ (k : ℕ). digits 256 k (number 256 (bytes n s))) (sym (length-bytes n s))
-        ∙ digits-number 256 (omega arith) (bytes n s) (bytes-below n s))
+    (ap (digits 256 n) (sym (bytes-number n s))
+    ∙ ap (λ (k : ℕ). digits 256 k (number 256 (bytes n s))) (sym (length-bytes n s))
+    ∙ digits-number 256 (omega arith) (bytes n s) (bytes-below n s))
     ∙ bytes-at n s i h
 
 -- a run of bytes as a number, under as many bits of the keystream as a number, is the run enciphered

@@ -59,9 +59,9 @@ pub held-loaded : (key iv : List ℕ) → length key ≡ 10 → length iv ≡ 10
 unfolding loaded numberAfter
 held-loaded key iv tenk teni keys values =
     let small : (bytes : List ℕ) → length bytes ≡ 10 → Below 256 bytes → number 256 bytes < 2 ^ 80 =
-        λ bytes ten below. subst (λ (n : ℕ). number 256 bytes < 256 ^ n) ten (number-below 256 bytes below) in
+    λ bytes ten below. subst (λ (n : ℕ). number 256 bytes < 256 ^ n) ten (number-below 256 bytes below) in
     record {
       a = subst (λ (v : ℕ). v < 2 ^ 93) (thirteen key keys) (omega (arith, small key tenk keys));
       b = subst (λ (v : ℕ). v < 2 ^ 84) (four iv values) (omega (arith, small iv teni values));
-      c = lit< tt
+      c = lit< tt;
     }

@@ -100,7 +100,7 @@ after s n k =
     record {
       a = grown 93 (s .a) n (wordA s / 2 ^ k);
       b = grown 84 (s .b) n (wordB s / 2 ^ k);
-      c = grown 111 (s .c) n (wordC s / 2 ^ k)
+      c = grown 111 (s .c) n (wordC s / 2 ^ k);
     }
 
 run-word : (j x : ℕ) → run j x < 2 ^ 64
@@ -142,13 +142,13 @@ next-after s n k e =
     let b : wordB s / 2 ^ suc k < 2 ^ n = front (wordB s) n (suc k) e (word-b s) in
     let c : wordC s / 2 ^ suc k < 2 ^ n = front (wordC s) n (suc k) e (word-c s) in
     let more : (w x v new : ℕ) → new ≡ v / 2 ^ k % 2 → moved w (grown w x n (v / 2 ^ suc k)) new ≡ grown w x (suc n) (v / 2 ^ k) =
-        λ w x v new p. ap (moved w (grown w x n (v / 2 ^ suc k))) p ∙ grown-more w x v n k in
+    λ w x v new p. ap (moved w (grown w x n (v / 2 ^ suc k))) p ∙ grown-more w x v n k in
     λ i.
-        record {
-          a = more 93 (s .a) (wordA s) (newA (after s n (suc k))) (new-bit 111 66 69 93 n k (s .c) (s .a) (wordC s / 2 ^ suc k) (wordA s / 2 ^ suc k) (omega arith) (omega arith) (omega arith) (omega arith) (omega arith) e c a) i;
-          b = more 84 (s .b) (wordB s) (newB (after s n (suc k))) (new-bit 93 66 78 84 n k (s .a) (s .b) (wordA s / 2 ^ suc k) (wordB s / 2 ^ suc k) (omega arith) (omega arith) (omega arith) (omega arith) (omega arith) e a b) i;
-          c = more 111 (s .c) (wordC s) (newC (after s n (suc k))) (new-bit 84 69 87 111 n k (s .b) (s .c) (wordB s / 2 ^ suc k) (wordC s / 2 ^ suc k) (omega arith) (omega arith) (omega arith) (omega arith) (omega arith) e b c) i
-        }
+    record {
+      a = more 93 (s .a) (wordA s) (newA (after s n (suc k))) (new-bit 111 66 69 93 n k (s .c) (s .a) (wordC s / 2 ^ suc k) (wordA s / 2 ^ suc k) (omega arith) (omega arith) (omega arith) (omega arith) (omega arith) e c a) i;
+      b = more 84 (s .b) (wordB s) (newB (after s n (suc k))) (new-bit 93 66 78 84 n k (s .a) (s .b) (wordA s / 2 ^ suc k) (wordB s / 2 ^ suc k) (omega arith) (omega arith) (omega arith) (omega arith) (omega arith) e a b) i;
+      c = more 111 (s .c) (wordC s) (newC (after s n (suc k))) (new-bit 84 69 87 111 n k (s .b) (s .c) (wordB s / 2 ^ suc k) (wordC s / 2 ^ suc k) (omega arith) (omega arith) (omega arith) (omega arith) (omega arith) e b c) i;
+    }
 
 -- no step at all
 grown-none : (w x v : ℕ) → x < 2 ^ w → v < 2 ^ 64 → x ≡ grown w x 0 (v / 2 ^ 64)
@@ -162,11 +162,11 @@ unfolding steps wordA wordB wordC
 partly s h zero k e =
     let last : k ≡ 64 = omega arith in
     (λ i.
-        record {
-          a = grown-none 93 (s .a) (wordA s) (h .a) (word-a s) i;
-          b = grown-none 84 (s .b) (wordB s) (h .b) (word-b s) i;
-          c = grown-none 111 (s .c) (wordC s) (h .c) (word-c s) i
-        })
+    record {
+      a = grown-none 93 (s .a) (wordA s) (h .a) (word-a s) i;
+      b = grown-none 84 (s .b) (wordB s) (h .b) (word-b s) i;
+      c = grown-none 111 (s .c) (wordC s) (h .c) (word-c s) i;
+    })
     ∙ ap (after s 0) (sym last)
 partly s h (suc n) k e =
     let rest : n + suc k ≡ 64 = omega arith in
@@ -230,7 +230,7 @@ strides s h =
       z = put-out s h 64 0 refl ∙ whole-word (wordZ s);
       a = ap (λ (t : State). t .a % 2 ^ 64) (partly s h 64 0 refl) ∙ newest 29 (s .a) (wordA s) (word-a s);
       b = ap (λ (t : State). t .b % 2 ^ 64) (partly s h 64 0 refl) ∙ newest 20 (s .b) (wordB s) (word-b s);
-      c = ap (λ (t : State). t .c % 2 ^ 64) (partly s h 64 0 refl) ∙ newest 47 (s .c) (wordC s) (word-c s)
+      c = ap (λ (t : State). t .c % 2 ^ 64) (partly s h 64 0 refl) ∙ newest 47 (s .c) (wordC s) (word-c s);
     }
 
 -- ---- whole bytes passed over

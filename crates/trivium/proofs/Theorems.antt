@@ -91,38 +91,42 @@ enciphers r input output room = rw (le-ltb (length output) (length input) room)
 -- A stream taken in two calls, the second at the place where the first stopped, is the stream taken in one.
 pub cut : (r : Registers) (xs ys output : List ℕ) → length xs + length ys ≤ length output
     → let first = enciphering r xs output in
-      let second = enciphering (first .answer .next) ys (drop (length xs) (first .buffer)) in
-      enciphering r (xs ++ ys) output ≡ outcome (second .answer) (take (length xs) (first .buffer) ++ second .buffer)
+    let second = enciphering (first .answer .next) ys (drop (length xs) (first .buffer)) in
+    enciphering r (xs ++ ys) output ≡ outcome (second .answer) (take (length xs) (first .buffer) ++ second .buffer)
 cut r xs ys output room =
     let k : Keystream = keystream (state r) in
     let front : List ℕ = enciphered k xs in
     let long : length front ≡ length xs = length-enciphered k xs in
     let more : length (enciphered (from (length xs) k) ys) ≡ length ys = length-enciphered (from (length xs) k) ys in
     let left : take (length xs) (placed output 0 front) ≡ front =
-        ap (λ (n : ℕ). take n (placed output 0 front)) (sym long) ∙ take-placed output front (omega arith) in
+    ap (λ (n : ℕ). take n (placed output 0 front)) (sym long) ∙ take-placed output front (omega arith) in
     let right : drop (length xs) (placed output 0 front) ≡ drop (length xs) output =
-        ap (λ (n : ℕ). drop n (placed output 0 front)) (sym long) ∙ drop-placed output front (omega arith) ∙ ap (λ (n : ℕ). drop n output) long in
-    rw (enciphers r xs output (omega arith), left, right,
-        enciphers (skipping r (length xs)) ys (drop (length xs) output) (simp length-drop (omega arith)),
-        enciphers r (xs ++ ys) output (simp length-append (omega arith)))
+    ap (λ (n : ℕ). drop n (placed output 0 front)) (sym long) ∙ drop-placed output front (omega arith) ∙ ap (λ (n : ℕ). drop n output) long in
+    rw (
+      enciphers r xs output (omega arith),
+      left,
+      right,
+      enciphers (skipping r (length xs)) ys (drop (length xs) output) (simp length-drop (omega arith)),
+      enciphers r (xs ++ ys) output (simp length-append (omega arith)),
+    )
     (ap₂ (λ (n : Registers) (d : List ℕ). outcome {A = Enciphered} (record { refusal = accepted; next = n }) d)
     (ap (skipping r) (length-append xs ys) ∙ sym (skip-add r (length xs) (length ys)))
     (ap (placed output 0) (enciphered-append k xs ys)
     ∙ placed-cut output front (enciphered (from (length xs) k) ys) (omega arith)
     ∙ ap₂ (λ (n : ℕ) (l : Keystream). front ++ placed (drop n output) 0 (enciphered l ys)) long
-        (keystream-from (length xs) (state r) ∙ ap keystream (sym (state-skip r (length xs))))))
+    (keystream-from (length xs) (state r) ∙ ap keystream (sym (state-skip r (length xs))))))
 
 -- To encipher twice from the same registers is to have the bytes back.
 pub twice : (r : Registers) (input output other : List ℕ) → length input ≤ length output → length input ≤ length other
     → let sent = take (length input) (enciphering r input output .buffer) in
-      take (length input) (enciphering r sent other .buffer) ≡ input
+    take (length input) (enciphering r sent other .buffer) ≡ input
 twice r input output other ho hr =
     let k : Keystream = keystream (state r) in
     let there : List ℕ = enciphered k input in
     let long : length there ≡ length input = length-enciphered k input in
     let back : length (enciphered k there) ≡ length input = length-enciphered k there ∙ long in
     let sent : take (length input) (placed output 0 there) ≡ there =
-        ap (λ (n : ℕ). take n (placed output 0 there)) (sym long) ∙ take-placed output there (omega arith) in
+    ap (λ (n : ℕ). take n (placed output 0 there)) (sym long) ∙ take-placed output there (omega arith) in
     rw (enciphers r input output ho, sent, enciphers r there other (omega arith))
     (ap (λ (n : ℕ). take n (placed other 0 (enciphered k there))) (sym back)
     ∙ take-placed other (enciphered k there) (omega arith)

@@ -67,7 +67,7 @@ rule-low : (p q r s t : ℕ) → rule p q r s t % 2 ≡ (p % 2 + q % 2 + (r % 2)
 rule-low p q r s t =
     xor-low (bitXor (bitXor p q) (bitAnd r s)) t
     ∙ ap (λ (v : ℕ). (v + t % 2) % 2)
-        (xor-low (bitXor p q) (bitAnd r s) ∙ ap₂ (λ (v u : ℕ). (v + u) % 2) (xor-low p q) (and-low r s))
+    (xor-low (bitXor p q) (bitAnd r s) ∙ ap₂ (λ (v u : ℕ). (v + u) % 2) (xor-low p q) (and-low r s))
     ∙ flat (p % 2) (q % 2) ((r % 2) * (s % 2)) (t % 2)
   where
     flat : (p q rs t : ℕ) → (((p + q) % 2 + rs) % 2 + t) % 2 ≡ (p + q + rs + t) % 2
@@ -91,7 +91,7 @@ pub sum-low : (p q r s t u : ℕ) → sum p q r s t u % 2 ≡ (p % 2 + q % 2 + r
 sum-low p q r s t u =
     xor-low (bitXor (bitXor p q) (bitXor r s)) (bitXor t u)
     ∙ ap₂ (λ (v w : ℕ). (v + w) % 2)
-        (xor-low (bitXor p q) (bitXor r s) ∙ ap₂ (λ (v w : ℕ). (v + w) % 2) (xor-low p q) (xor-low r s)) (xor-low t u)
+    (xor-low (bitXor p q) (bitXor r s) ∙ ap₂ (λ (v w : ℕ). (v + w) % 2) (xor-low p q) (xor-low r s)) (xor-low t u)
     ∙ flat (p % 2) (q % 2) (r % 2) (s % 2) (t % 2) (u % 2)
   where
     flat : (p q r s t u : ℕ) → (((p + q) % 2 + (r + s) % 2) % 2 + (t + u) % 2) % 2 ≡ (p + q + r + s + t + u) % 2
@@ -146,8 +146,10 @@ grown-more w x v n k =
   where
     half : v / 2 ^ suc k ≡ v / 2 ^ k / 2
     half = ap (λ (e : ℕ). v / 2 ^ e) (sym (add-one k)) ∙ sym (shr-shr v k 1)
+
     twice : x * 2 ^ suc n ≡ x * 2 ^ n * 2
     twice = ap (λ (p : ℕ). x * p) (pow-suc 2 n) ∙ sym (mul-assoc x (2 ^ n) 2)
+
     whole : (x * 2 ^ n + v / 2 ^ suc k) * 2 + v / 2 ^ k % 2 ≡ x * 2 ^ suc n + v / 2 ^ k
     whole = omega (arith, half, twice)
 
@@ -207,8 +209,8 @@ module _ (p upper lower n k r : ℕ) (e : n + k ≡ 64) (small : p ≤ 64) (hl :
   unfolding whole
   apart =
       ap (λ (v : ℕ). v + r)
-          (add-mul (upper * 2 ^ 64) lower (2 ^ n)
-          ∙ ap (λ (v : ℕ). v + lower * 2 ^ n) (mul-assoc upper (2 ^ 64) (2 ^ n) ∙ ap (λ (v : ℕ). upper * v) (mul-comm (2 ^ 64) (2 ^ n)) ∙ sym (mul-assoc upper (2 ^ n) (2 ^ 64))))
+      (add-mul (upper * 2 ^ 64) lower (2 ^ n)
+      ∙ ap (λ (v : ℕ). v + lower * 2 ^ n) (mul-assoc upper (2 ^ 64) (2 ^ n) ∙ ap (λ (v : ℕ). upper * v) (mul-comm (2 ^ 64) (2 ^ n)) ∙ sym (mul-assoc upper (2 ^ n) (2 ^ 64))))
       ∙ add-assoc (upper * 2 ^ n * 2 ^ 64) (lower * 2 ^ n) r
 
   carried : (lower * 2 ^ n + r) / 2 ^ 64 ≡ lower / 2 ^ k

@@ -12,7 +12,6 @@ pub record State : Type 0 where
   pub c : ℕ
 
 infixl 90 _⟨i-_⟩
-
 -- x(i-k)
 abbrev pub _⟨i-_⟩ : ℕ → ℕ → ℕ
 x ⟨i- k ⟩ = x / 2 ^ (k - 1) % 2
@@ -30,7 +29,7 @@ loaded key iv =
     record {
       a = register (zeros 13 ++ bitsOf key);
       b = register (zeros 4 ++ bitsOf iv);
-      c = register ((1 ∷ 1 ∷ 1 ∷ []) ++ zeros 108)
+      c = register ((1 ∷ 1 ∷ 1 ∷ []) ++ zeros 108);
     }
 
 -- 6.3.4 a), one rule for the three: the new bit is made of the register `from` of w bits, at `near` and at its three oldest bits,

@@ -49,17 +49,24 @@ struct Ahead {
 }
 
 const KEY_BYTES: usize = 10;
+
 const VALUE_BYTES: usize = 10;
+
 const WARM_UP: usize = 1152;
 
 const ACCEPTED: u8 = 0;
+
 const BAD_KEY: u8 = 1;
+
 const BAD_VALUE: u8 = 2;
+
 const NO_ROOM: u8 = 19;
 
 // One more than the highest number that a register's upper word holds of it: 29 of 93 bits, 20 of 84 and 47 of 111.
 const A_TOP: u64 = 536870912;
+
 const B_TOP: u64 = 1048576;
+
 const C_TOP: u64 = 140737488355328;
 
 // The registers before warm-up. Key and initial value come in with their first bit as the oldest.
@@ -160,10 +167,8 @@ impl Registers {
 
     // The taps of 64 steps at once: none of them reaches a bit that comes in on the way.
     fn ahead(self) -> Ahead
-        ensures {
-            λ r. ⌜ (r .z ≡ number 2 (bits 64 (state self))) × (r .a ≡ steps 64 (state self) .a % 2 ^ 64)
-                × (r .b ≡ steps 64 (state self) .b % 2 ^ 64) × (r .c ≡ steps 64 (state self) .c % 2 ^ 64) ⌝
-        }
+        ensures { λ r. ⌜ (r .z ≡ number 2 (bits 64 (state self))) × (r .a ≡ steps 64 (state self) .a % 2 ^ 64)
+            × (r .b ≡ steps 64 (state self) .b % 2 ^ 64) × (r .c ≡ steps 64 (state self) .c % 2 ^ 64) ⌝ }
     {
         let a1 = self.a1;
         let a0 = self.a0;
@@ -176,9 +181,15 @@ impl Registers {
         let from_c = ((c1 << 62) | (c0 >> 2)) ^ ((c1 << 17) | (c0 >> 47));
         Ahead {
             z: from_c ^ from_a ^ from_b,
-            a: from_c ^ (((c1 << 18) | (c0 >> 46)) & ((c1 << 19) | (c0 >> 45))) ^ ((a1 << 59) | (a0 >> 5)),
-            b: from_a ^ (((a1 << 36) | (a0 >> 28)) & ((a1 << 37) | (a0 >> 27))) ^ ((b1 << 50) | (b0 >> 14)),
-            c: from_b ^ (((b1 << 45) | (b0 >> 19)) & ((b1 << 46) | (b0 >> 18))) ^ ((c1 << 41) | (c0 >> 23)),
+            a: from_c
+                ^ (((c1 << 18) | (c0 >> 46)) & ((c1 << 19) | (c0 >> 45)))
+                ^ ((a1 << 59) | (a0 >> 5)),
+            b: from_a
+                ^ (((a1 << 36) | (a0 >> 28)) & ((a1 << 37) | (a0 >> 27)))
+                ^ ((b1 << 50) | (b0 >> 14)),
+            c: from_b
+                ^ (((b1 << 45) | (b0 >> 19)) & ((b1 << 46) | (b0 >> 18)))
+                ^ ((c1 << 41) | (c0 >> 23)),
         }
     }
 
@@ -278,10 +289,8 @@ impl Registers {
     // Up to eight bytes from `at` under the next bytes of the keystream.
     fn encipher_some(self, input: &[u8], output: &mut [u8], at: usize, bytes: usize) -> Registers
         requires { ⌜ (bytes ≤ 8) × (at + bytes ≤ length (now input)) × (at + bytes ≤ length (now output)) ⌝ }
-        ensures {
-            λ r. ⌜ (r ≡ skipping self bytes)
-                × (now (output .exit) ≡ placed (now (output .entry)) at (enciphered (keystream (state self)) (take bytes (drop at (now (input .entry)))))) ⌝
-        }
+        ensures { λ r. ⌜ (r ≡ skipping self bytes)
+            × (now (output .exit) ≡ placed (now (output .entry)) at (enciphered (keystream (state self)) (take bytes (drop at (now (input .entry)))))) ⌝ }
     {
         let strode = self.part(bytes);
         let word = octets::number_at(input, at, bytes) ^ strode.word;

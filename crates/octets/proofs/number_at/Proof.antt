@@ -30,10 +30,10 @@ read-more s at i h b =
     moved-up 8 56 (numberAt s at i) (getD s (at + i) 0) refl b
     ∙ multiple-mod (2 ^ 64) (number 256 (take i rest)) 256 (getD s (at + i) 0)
     ∙ ap (λ (v : ℕ). v % 2 ^ 64)
-        (ap (λ (x : ℕ). number 256 (take i rest) * 256 + x) (sym (getD-drop at s i 0))
-        ∙ sym (number-snoc 256 (take i rest) (getD rest i 0))
-        ∙ ap (number 256) (sym (take-suc rest i 0 (omega arith)))
-        ∙ ap (λ (k : ℕ). number 256 (take k rest)) (sym (add-one i)))
+    (ap (λ (x : ℕ). number 256 (take i rest) * 256 + x) (sym (getD-drop at s i 0))
+    ∙ sym (number-snoc 256 (take i rest) (getD rest i 0))
+    ∙ ap (number 256) (sym (take-suc rest i 0 (omega arith)))
+    ∙ ap (λ (k : ℕ). number 256 (take k rest)) (sym (add-one i)))
 
 take-min : (n : ℕ) (l : List ℕ) → take (min n (length l)) l ≡ take n l
 take-min zero l = ap (λ (k : ℕ). take k l) (zero-min (length l))
@@ -71,11 +71,12 @@ loop-less c = omega arith
 loop-again : tie.Need-loop-again Inv-loop μ-loop
 loop-again c =
     let p = c .before .before .before .before .before .args in
-    let l = c .before .before .loop in
-    (omega arith,
-    l .inv .1,
-    ap (λ (v : ℕ). bitOr (v * 256 % 2 ^ 64) (getD (p .s .now) (p .at + l .i) 0)) (l .inv .2)
-    ∙ read-more (p .s .now) (p .at) (l .i) (omega arith) (omega (arith, c .shared-slice-known2 .given (p .at + l .i))))
+    let l = c .before .before .loop in (
+      omega arith,
+      l .inv .1,
+      ap (λ (v : ℕ). bitOr (v * 256 % 2 ^ 64) (getD (p .s .now) (p .at + l .i) 0)) (l .inv .2)
+          ∙ read-more (p .s .now) (p .at) (l .i) (omega arith) (omega (arith, c .shared-slice-known2 .given (p .at + l .i))),
+    )
 
 returns : tie.Need-returns Inv-loop μ-loop
 returns c =

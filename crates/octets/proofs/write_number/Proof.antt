@@ -30,7 +30,7 @@ write-more : (d : List ℕ) (at n value i : ℕ) → i < n → at + n ≤ length
 write-more d at n value i h room =
     let long : length (digits 256 n value) ≡ n = length-digits 256 n value in
     ap (set (paste d at (digits 256 n value) i) (at + i))
-        (ap (λ (p : ℕ). value / p % 256) (sym (power-of-bytes (n - 1 - i))) ∙ sym (digit-at 256 n value i h))
+    (ap (λ (p : ℕ). value / p % 256) (sym (power-of-bytes (n - 1 - i))) ∙ sym (digit-at 256 n value i h))
     ∙ paste-suc d at (digits 256 n value) i 0 (omega arith) (omega arith)
     ∙ ap (paste d at (digits 256 n value)) (sym (add-one i))
 
@@ -97,11 +97,12 @@ loop-less c = omega arith
 loop-again : tie.Need-loop-again Inv-loop μ-loop
 loop-again c =
     let p = c .before .before .before .before .before .args in
-    let l = c .before .loop in
-    (omega arith,
-    length-set (l .d) (p .at + l .i) (p .value / 2 ^ (8 * (p .n - 1 - l .i)) % 256) ∙ l .inv .1,
-    ap (λ (d : List ℕ). set d (p .at + l .i) (p .value / 2 ^ (8 * (p .n - 1 - l .i)) % 256)) (l .inv .2)
-    ∙ write-more (p .d .now) (p .at) (p .n) (p .value) (l .i) (omega arith) (omega arith))
+    let l = c .before .loop in (
+      omega arith,
+      length-set (l .d) (p .at + l .i) (p .value / 2 ^ (8 * (p .n - 1 - l .i)) % 256) ∙ l .inv .1,
+      ap (λ (d : List ℕ). set d (p .at + l .i) (p .value / 2 ^ (8 * (p .n - 1 - l .i)) % 256)) (l .inv .2)
+          ∙ write-more (p .d .now) (p .at) (p .n) (p .value) (l .i) (omega arith) (omega arith),
+    )
 
 same-length : tie.Need-same-length Inv-loop μ-loop
 same-length c = c .before .loop .inv .1

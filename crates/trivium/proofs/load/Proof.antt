@@ -35,14 +35,14 @@ returns c =
     let keys : Below 256 key = λ i. omega (arith, c .before .before .before .before .before .shared-slice-known .given i) in
     let values : Below 256 iv = λ i. omega (arith, c .before .before .before .before .shared-slice-known2 .given i) in
     λ i.
-        record {
-          a1 = (c .before .before .before .number-at .ensures ∙ upper key (pre .0) keys ∙ ap (λ (v : ℕ). v / 2 ^ 64) (thirteen key keys)) i;
-          a0 = (c .before .before .number-at2 .ensures ∙ lower key (pre .0) keys ∙ ap (λ (v : ℕ). v % 2 ^ 64) (thirteen key keys)) i;
-          b1 = (c .before .number-at3 .ensures ∙ upper iv (pre .1) values ∙ ap (λ (v : ℕ). v / 2 ^ 64) (four iv values)) i;
-          b0 = (c .number-at4 .ensures ∙ lower iv (pre .1) values ∙ ap (λ (v : ℕ). v % 2 ^ 64) (four iv values)) i;
-          c1 = 123145302310912;
-          c0 = 0
-        }
+    record {
+      a1 = (c .before .before .before .number-at .ensures ∙ upper key (pre .0) keys ∙ ap (λ (v : ℕ). v / 2 ^ 64) (thirteen key keys)) i;
+      a0 = (c .before .before .number-at2 .ensures ∙ lower key (pre .0) keys ∙ ap (λ (v : ℕ). v % 2 ^ 64) (thirteen key keys)) i;
+      b1 = (c .before .number-at3 .ensures ∙ upper iv (pre .1) values ∙ ap (λ (v : ℕ). v / 2 ^ 64) (four iv values)) i;
+      b0 = (c .number-at4 .ensures ∙ lower iv (pre .1) values ∙ ap (λ (v : ℕ). v % 2 ^ 64) (four iv values)) i;
+      c1 = 123145302310912;
+      c0 = 0;
+    }
 
 pub load-spec : {M : Type 1} → statement M
 load-spec =

@@ -26,15 +26,16 @@ returns c =
     let a : (j : ℕ) → 64 < j → j ≤ 93 → taken j (r .a1) (r .a0) ≡ run j (s .a) = λ j l u. run-joined 93 j (r .a1) (r .a0) l (omega arith) u la in
     let b : (j : ℕ) → 64 < j → j ≤ 84 → taken j (r .b1) (r .b0) ≡ run j (s .b) = λ j l u. run-joined 84 j (r .b1) (r .b0) l (omega arith) u lb in
     let d : (j : ℕ) → 64 < j → j ≤ 111 → taken j (r .c1) (r .c0) ≡ run j (s .c) = λ j l u. run-joined 111 j (r .c1) (r .c0) l (omega arith) u lc in
-    let made = strides s (held-state r) in
-    ((λ i. sum (d 66 (omega arith) (omega arith) i) (d 111 (omega arith) (omega arith) i) (a 66 (omega arith) (omega arith) i) (a 93 (omega arith) (omega arith) i) (b 69 (omega arith) (omega arith) i) (b 84 (omega arith) (omega arith) i))
-    ∙ sym (made .z),
-    (λ i. rule (d 66 (omega arith) (omega arith) i) (d 111 (omega arith) (omega arith) i) (d 110 (omega arith) (omega arith) i) (d 109 (omega arith) (omega arith) i) (a 69 (omega arith) (omega arith) i))
-    ∙ sym (made .a),
-    (λ i. rule (a 66 (omega arith) (omega arith) i) (a 93 (omega arith) (omega arith) i) (a 92 (omega arith) (omega arith) i) (a 91 (omega arith) (omega arith) i) (b 78 (omega arith) (omega arith) i))
-    ∙ sym (made .b),
-    (λ i. rule (b 69 (omega arith) (omega arith) i) (b 84 (omega arith) (omega arith) i) (b 83 (omega arith) (omega arith) i) (b 82 (omega arith) (omega arith) i) (d 87 (omega arith) (omega arith) i))
-    ∙ sym (made .c))
+    let made = strides s (held-state r) in (
+      (λ i. sum (d 66 (omega arith) (omega arith) i) (d 111 (omega arith) (omega arith) i) (a 66 (omega arith) (omega arith) i) (a 93 (omega arith) (omega arith) i) (b 69 (omega arith) (omega arith) i) (b 84 (omega arith) (omega arith) i))
+          ∙ sym (made .z),
+      (λ i. rule (d 66 (omega arith) (omega arith) i) (d 111 (omega arith) (omega arith) i) (d 110 (omega arith) (omega arith) i) (d 109 (omega arith) (omega arith) i) (a 69 (omega arith) (omega arith) i))
+          ∙ sym (made .a),
+      (λ i. rule (a 66 (omega arith) (omega arith) i) (a 93 (omega arith) (omega arith) i) (a 92 (omega arith) (omega arith) i) (a 91 (omega arith) (omega arith) i) (b 78 (omega arith) (omega arith) i))
+          ∙ sym (made .b),
+      (λ i. rule (b 69 (omega arith) (omega arith) i) (b 84 (omega arith) (omega arith) i) (b 83 (omega arith) (omega arith) i) (b 82 (omega arith) (omega arith) i) (d 87 (omega arith) (omega arith) i))
+          ∙ sym (made .c),
+    )
 
 pub ahead-spec : {M : Type 1} → statement M
 ahead-spec = tie.close (tie.spec returns)

@@ -37,7 +37,7 @@ further : (r now : Registers) (input output : List ℕ) (at m : ℕ) → at + m 
     → placed (written r input output at) at (enciphered (keystream (state now)) (take m (drop at input))) ≡ written r input output (at + m)
 further r now input output at m hi ho e =
     ap (λ (k : Keystream). placed (written r input output at) at (enciphered k (take m (drop at input))))
-        (ap keystream e ∙ sym (keystream-from at (state r)))
+    (ap keystream e ∙ sym (keystream-from at (state r)))
     ∙ placed-enciphered (keystream (state r)) input output at m hi ho
 
 -- the registers m bytes further
@@ -71,13 +71,14 @@ loop-again : tie.Need-loop-again Inv-loop μ-loop
 loop-again c =
     let m = c .before .before in
     let l = m .before .before .before .loop in
-    let p = m .before .before .before .before .before .before .before .args in
-    (omega arith,
-    m .encipher-some .kept .1 .1 .0 ∙ l .inv .1,
-    ap state (m .encipher-some .ensures .0) ∙ state-skip (l .registers) 8 ∙ ap (steps 64) (l .inv .2) ∙ sym (steps-bytes (l .at) 8 (state (p .self))),
-    m .encipher-some .ensures .1
-    ∙ ap (λ (d : List ℕ). placed d (l .at) (enciphered (keystream (state (l .registers))) (take 8 (drop (l .at) (p .input .now))))) (l .inv .3)
-    ∙ further (p .self) (l .registers) (p .input .now) (p .output .now) (l .at) 8 (omega arith) (omega arith) (l .inv .2))
+    let p = m .before .before .before .before .before .before .before .args in (
+      omega arith,
+      m .encipher-some .kept .1 .1 .0 ∙ l .inv .1,
+      ap state (m .encipher-some .ensures .0) ∙ state-skip (l .registers) 8 ∙ ap (steps 64) (l .inv .2) ∙ sym (steps-bytes (l .at) 8 (state (p .self))),
+      m .encipher-some .ensures .1
+          ∙ ap (λ (d : List ℕ). placed d (l .at) (enciphered (keystream (state (l .registers))) (take 8 (drop (l .at) (p .input .now))))) (l .inv .3)
+          ∙ further (p .self) (l .registers) (p .input .now) (p .output .now) (l .at) 8 (omega arith) (omega arith) (l .inv .2),
+    )
 
 sub-encipher-some : tie.Need-sub-encipher-some Inv-loop μ-loop
 sub-encipher-some c = omega arith
@@ -98,13 +99,13 @@ returns-2 c =
     let room : n ≤ length (p .output .now) = omega arith in
     let whole : l .at + (n - l .at) ≡ n = omega arith in
     let gone : m .encipher-some2 .result ≡ skipping (p .self) n =
-        m .encipher-some2 .ensures .0 ∙ skip-on (p .self) (l .registers) (l .at) (n - l .at) (l .inv .2) ∙ ap (skipping (p .self)) whole in
+    m .encipher-some2 .ensures .0 ∙ skip-on (p .self) (l .registers) (l .at) (n - l .at) (l .inv .2) ∙ ap (skipping (p .self)) whole in
     let last : m .encipher-some2 .last .1 .1 .0 ≡ placed (p .output .now) 0 (enciphered (keystream (state (p .self))) (p .input .now)) =
-        m .encipher-some2 .ensures .1
-        ∙ ap (λ (d : List ℕ). placed d (l .at) (enciphered (keystream (state (l .registers))) (take (n - l .at) (drop (l .at) (p .input .now))))) (l .inv .3)
-        ∙ further (p .self) (l .registers) (p .input .now) (p .output .now) (l .at) (n - l .at) (omega arith) (omega arith) (l .inv .2)
-        ∙ ap (λ (k : ℕ). written (p .self) (p .input .now) (p .output .now) k) whole
-        ∙ ap (λ (bytes : List ℕ). placed (p .output .now) 0 (enciphered (keystream (state (p .self))) bytes)) (take-all n (p .input .now) (omega arith)) in
+    m .encipher-some2 .ensures .1
+    ∙ ap (λ (d : List ℕ). placed d (l .at) (enciphered (keystream (state (l .registers))) (take (n - l .at) (drop (l .at) (p .input .now))))) (l .inv .3)
+    ∙ further (p .self) (l .registers) (p .input .now) (p .output .now) (l .at) (n - l .at) (omega arith) (omega arith) (l .inv .2)
+    ∙ ap (λ (k : ℕ). written (p .self) (p .input .now) (p .output .now) k) whole
+    ∙ ap (λ (bytes : List ℕ). placed (p .output .now) 0 (enciphered (keystream (state (p .self))) bytes)) (take-all n (p .input .now) (omega arith)) in
     ap₂ (λ (r : Registers) (d : List ℕ). outcome {A = Enciphered} (record { refusal = 0; next = r }) d) gone last
     ∙ rw (le-ltb (length (p .output .now)) n room)
 

@@ -67,12 +67,13 @@ returns c =
     let number-at = m .before .before .before .number-at in
     let part = m .before .before .before .before .part in
     let start = m .before .before .before .before .before .before .before in
-    let p = start .args in
-    (part .ensures .1,
-    m .write-number .ensures
-    ∙ ap₂ (λ (x z : ℕ). numberPlaced (p .output .now) (p .at) (p .bytes) (bitXor x z)) (number-at .ensures) (part .ensures .0)
-    ∙ written (p .input .now) (p .output .now) (p .at) (p .bytes) (state (p .self)) (start .pre .0) (start .pre .1) (start .pre .2)
-        (λ i. omega (arith, m .before .before .before .before .before .before .shared-slice-known .given i)))
+    let p = start .args in (
+      part .ensures .1,
+      m .write-number .ensures
+          ∙ ap₂ (λ (x z : ℕ). numberPlaced (p .output .now) (p .at) (p .bytes) (bitXor x z)) (number-at .ensures) (part .ensures .0)
+          ∙ written (p .input .now) (p .output .now) (p .at) (p .bytes) (state (p .self)) (start .pre .0) (start .pre .1) (start .pre .2)
+          (λ i. omega (arith, m .before .before .before .before .before .before .shared-slice-known .given i)),
+    )
 
 pub encipher-some-spec : {M : Type 1} → statement M
 encipher-some-spec = tie.close (tie.spec part-requires number-at-requires write-number-requires same-length returns)

@@ -58,9 +58,9 @@ returns-3 c =
     let key : List ℕ = p .key .now in
     let iv : List ℕ = p .iv .now in
     let warm : c .warmed-up .result ≡ packed (started key iv) =
-        c .warmed-up .ensures
-        ∙ ap (λ (r : Registers). packed (steps warmUp (state r))) (c .before .load .ensures)
-        ∙ ap (λ (s : State). packed (steps warmUp s)) (state-packed (loaded key iv) (held (c .before))) in
+    c .warmed-up .ensures
+    ∙ ap (λ (r : Registers). packed (steps warmUp (state r))) (c .before .load .ensures)
+    ∙ ap (λ (s : State). packed (steps warmUp s)) (state-packed (loaded key iv) (held (c .before))) in
     ap (λ (r : Registers). record { refusal = 0; registers = r }) warm
     ∙ rw (eq-eqb (length key) 10 (c .before .before .before .if1 .left), eq-eqb (length iv) 10 (c .before .before .if2 .left))
 

@@ -34,9 +34,10 @@ returns-2 : tie.Need-returns-2
 unfolding striding skipping
 returns-2 c =
     let r = c .before .before .before .args .self in
-    let all : 8 ≡ c .before .before .before .args .bytes = sym (c .before .if2 .taken) in
-    (ap (λ (x : Strode). x .word) (c .stride .ensures) ∙ ap (λ (b : ℕ). number 2 (bits (8 * b) (state r))) all,
-    ap (λ (x : Strode). x .next) (c .stride .ensures) ∙ ap (skipping r) all)
+    let all : 8 ≡ c .before .before .before .args .bytes = sym (c .before .if2 .taken) in (
+      ap (λ (x : Strode). x .word) (c .stride .ensures) ∙ ap (λ (b : ℕ). number 2 (bits (8 * b) (state r))) all,
+      ap (λ (x : Strode). x .next) (c .stride .ensures) ∙ ap (skipping r) all,
+    )
 
 mul-n : tie.Need-mul-n
 mul-n c = omega arith
@@ -109,18 +110,19 @@ returns-3 c =
     let lc : r .c0 < 2 ^ 64 = omega arith in
     let made = strides s (held-state r) in
     let got = c .ahead .ensures in
-    let there : steps n s ≡ after s n k = partly s (held-state r) n k e in
-    (ap (λ (z : ℕ). z / 2 ^ k) (got .0 ∙ made .z) ∙ sym (put-out s (held-state r) n k e),
-    (λ i.
-        record {
-          a1 = upper-part 29 (r .a1) (r .a0) n k (c .ahead .result .a) (wordA s) (got .1 ∙ made .a) e (omega arith) la (word-a s) i;
-          a0 = lower-part 29 (r .a1) (r .a0) n k (c .ahead .result .a) (wordA s) (got .1 ∙ made .a) e (omega arith) la (word-a s) i;
-          b1 = upper-part 20 (r .b1) (r .b0) n k (c .ahead .result .b) (wordB s) (got .2 ∙ made .b) e (omega arith) lb (word-b s) i;
-          b0 = lower-part 20 (r .b1) (r .b0) n k (c .ahead .result .b) (wordB s) (got .2 ∙ made .b) e (omega arith) lb (word-b s) i;
-          c1 = upper-part 47 (r .c1) (r .c0) n k (c .ahead .result .c) (wordC s) (got .3 ∙ made .c) e (omega arith) lc (word-c s) i;
-          c0 = lower-part 47 (r .c1) (r .c0) n k (c .ahead .result .c) (wordC s) (got .3 ∙ made .c) e (omega arith) lc (word-c s) i
-        })
-    ∙ ap packed (sym there))
+    let there : steps n s ≡ after s n k = partly s (held-state r) n k e in (
+      ap (λ (z : ℕ). z / 2 ^ k) (got .0 ∙ made .z) ∙ sym (put-out s (held-state r) n k e),
+      (λ i.
+          record {
+            a1 = upper-part 29 (r .a1) (r .a0) n k (c .ahead .result .a) (wordA s) (got .1 ∙ made .a) e (omega arith) la (word-a s) i;
+            a0 = lower-part 29 (r .a1) (r .a0) n k (c .ahead .result .a) (wordA s) (got .1 ∙ made .a) e (omega arith) la (word-a s) i;
+            b1 = upper-part 20 (r .b1) (r .b0) n k (c .ahead .result .b) (wordB s) (got .2 ∙ made .b) e (omega arith) lb (word-b s) i;
+            b0 = lower-part 20 (r .b1) (r .b0) n k (c .ahead .result .b) (wordB s) (got .2 ∙ made .b) e (omega arith) lb (word-b s) i;
+            c1 = upper-part 47 (r .c1) (r .c0) n k (c .ahead .result .c) (wordC s) (got .3 ∙ made .c) e (omega arith) lc (word-c s) i;
+            c0 = lower-part 47 (r .c1) (r .c0) n k (c .ahead .result .c) (wordC s) (got .3 ∙ made .c) e (omega arith) lc (word-c s) i;
+          })
+          ∙ ap packed (sym there),
+    )
 
 pub part-spec : {M : Type 1} → statement M
 part-spec =

@@ -32,12 +32,13 @@ loop-again : tie.Need-loop-again Inv-loop μ-loop
 unfolding striding skipping
 loop-again c =
     let l = c .before .before .before .loop in
-    let eight : 8 + (l .left - 8) ≡ l .left = omega arith in
-    (omega arith,
-    ap (λ (x : Strode). skipping (x .next) (l .left - 8)) (c .before .stride .ensures)
-    ∙ skip-add (l .registers) 8 (l .left - 8)
-    ∙ ap (skipping (l .registers)) eight
-    ∙ l .inv .1)
+    let eight : 8 + (l .left - 8) ≡ l .left = omega arith in (
+      omega arith,
+      ap (λ (x : Strode). skipping (x .next) (l .left - 8)) (c .before .stride .ensures)
+          ∙ skip-add (l .registers) 8 (l .left - 8)
+          ∙ ap (skipping (l .registers)) eight
+          ∙ l .inv .1,
+    )
 
 part-requires : tie.Need-part-requires Inv-loop μ-loop
 part-requires c κs = omega arith

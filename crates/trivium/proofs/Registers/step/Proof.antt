@@ -42,26 +42,26 @@ returns c =
     let nb = new-upper 93 66 78 84 (r .a1) (r .a0) (r .b1) (r .b0) (omega arith) (omega arith) (omega arith) (omega arith) (omega arith) la lb in
     let nc = new-upper 84 69 87 111 (r .b1) (r .b0) (r .c1) (r .c0) (omega arith) (omega arith) (omega arith) (omega arith) (omega arith) lb lc in
     let out =
-        output-by (state r) (r .c1 / 2) (r .c1 / 2 ^ 46) (r .a1 / 2) (r .a1 / 2 ^ 28) (r .b1 / 2 ^ 4) (r .b1 / 2 ^ 19)
-        (tap-upper 111 66 (r .c1) (r .c0) (omega arith) (omega arith) lc)
-        (tap-upper 111 111 (r .c1) (r .c0) (omega arith) (omega arith) lc)
-        (tap-upper 93 66 (r .a1) (r .a0) (omega arith) (omega arith) la)
-        (tap-upper 93 93 (r .a1) (r .a0) (omega arith) (omega arith) la)
-        (tap-upper 84 69 (r .b1) (r .b0) (omega arith) (omega arith) lb)
-        (tap-upper 84 84 (r .b1) (r .b0) (omega arith) (omega arith) lb) in
+    output-by (state r) (r .c1 / 2) (r .c1 / 2 ^ 46) (r .a1 / 2) (r .a1 / 2 ^ 28) (r .b1 / 2 ^ 4) (r .b1 / 2 ^ 19)
+    (tap-upper 111 66 (r .c1) (r .c0) (omega arith) (omega arith) lc)
+    (tap-upper 111 111 (r .c1) (r .c0) (omega arith) (omega arith) lc)
+    (tap-upper 93 66 (r .a1) (r .a0) (omega arith) (omega arith) la)
+    (tap-upper 93 93 (r .a1) (r .a0) (omega arith) (omega arith) la)
+    (tap-upper 84 69 (r .b1) (r .b0) (omega arith) (omega arith) lb)
+    (tap-upper 84 84 (r .b1) (r .b0) (omega arith) (omega arith) lb) in
     λ i.
-        record {
-          bit = sym out i;
-          next =
-              record {
-                a1 = sym (upper-moved 29 (r .a1) (r .a0) _ _ na (omega arith) la) i;
-                a0 = sym (lower-moved 29 (r .a1) (r .a0) _ _ na (omega arith) la) i;
-                b1 = sym (upper-moved 20 (r .b1) (r .b0) _ _ nb (omega arith) lb) i;
-                b0 = sym (lower-moved 20 (r .b1) (r .b0) _ _ nb (omega arith) lb) i;
-                c1 = sym (upper-moved 47 (r .c1) (r .c0) _ _ nc (omega arith) lc) i;
-                c0 = sym (lower-moved 47 (r .c1) (r .c0) _ _ nc (omega arith) lc) i
-              }
-        }
+    record {
+      bit = sym out i;
+      next =
+          record {
+            a1 = sym (upper-moved 29 (r .a1) (r .a0) _ _ na (omega arith) la) i;
+            a0 = sym (lower-moved 29 (r .a1) (r .a0) _ _ na (omega arith) la) i;
+            b1 = sym (upper-moved 20 (r .b1) (r .b0) _ _ nb (omega arith) lb) i;
+            b0 = sym (lower-moved 20 (r .b1) (r .b0) _ _ nb (omega arith) lb) i;
+            c1 = sym (upper-moved 47 (r .c1) (r .c0) _ _ nc (omega arith) lc) i;
+            c0 = sym (lower-moved 47 (r .c1) (r .c0) _ _ nc (omega arith) lc) i;
+          };
+    }
 
 pub step-spec : {M : Type 1} → statement M
 step-spec = tie.close (tie.spec cast-t20 returns)

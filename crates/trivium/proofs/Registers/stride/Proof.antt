@@ -25,18 +25,18 @@ returns c =
     let there : steps 64 s ≡ after s 64 0 = partly s (held-state r) 64 0 refl in
     let got = c .ahead .ensures in
     λ i.
-        record {
-          word = got .0 i;
-          next =
-              record {
-                a1 = sym (ap (λ (t : State). t .a / 2 ^ 64) there ∙ upper-strode 29 (r .a1) (r .a0) (wordA s / 2 ^ 0) (omega arith) la (front (wordA s) 64 0 refl (word-a s))) i;
-                a0 = got .1 i;
-                b1 = sym (ap (λ (t : State). t .b / 2 ^ 64) there ∙ upper-strode 20 (r .b1) (r .b0) (wordB s / 2 ^ 0) (omega arith) lb (front (wordB s) 64 0 refl (word-b s))) i;
-                b0 = got .2 i;
-                c1 = sym (ap (λ (t : State). t .c / 2 ^ 64) there ∙ upper-strode 47 (r .c1) (r .c0) (wordC s / 2 ^ 0) (omega arith) lc (front (wordC s) 64 0 refl (word-c s))) i;
-                c0 = got .3 i
-              }
-        }
+    record {
+      word = got .0 i;
+      next =
+          record {
+            a1 = sym (ap (λ (t : State). t .a / 2 ^ 64) there ∙ upper-strode 29 (r .a1) (r .a0) (wordA s / 2 ^ 0) (omega arith) la (front (wordA s) 64 0 refl (word-a s))) i;
+            a0 = got .1 i;
+            b1 = sym (ap (λ (t : State). t .b / 2 ^ 64) there ∙ upper-strode 20 (r .b1) (r .b0) (wordB s / 2 ^ 0) (omega arith) lb (front (wordB s) 64 0 refl (word-b s))) i;
+            b0 = got .2 i;
+            c1 = sym (ap (λ (t : State). t .c / 2 ^ 64) there ∙ upper-strode 47 (r .c1) (r .c0) (wordC s / 2 ^ 0) (omega arith) lc (front (wordC s) 64 0 refl (word-c s))) i;
+            c0 = got .3 i;
+          };
+    }
 
 pub stride-spec : {M : Type 1} → statement M
 stride-spec = tie.close (tie.spec ahead-requires returns)

@@ -16,14 +16,14 @@ returns c =
     let lb : r .b0 < 2 ^ 64 = omega arith in
     let lc : r .c0 < 2 ^ 64 = omega arith in
     λ i.
-        record {
-          a1 = sym (upper-trimmed 29 (r .a1) (r .a0) (omega arith) la) i;
-          a0 = sym (lower-trimmed 29 (r .a1) (r .a0) (omega arith) la) i;
-          b1 = sym (upper-trimmed 20 (r .b1) (r .b0) (omega arith) lb) i;
-          b0 = sym (lower-trimmed 20 (r .b1) (r .b0) (omega arith) lb) i;
-          c1 = sym (upper-trimmed 47 (r .c1) (r .c0) (omega arith) lc) i;
-          c0 = sym (lower-trimmed 47 (r .c1) (r .c0) (omega arith) lc) i
-        }
+    record {
+      a1 = sym (upper-trimmed 29 (r .a1) (r .a0) (omega arith) la) i;
+      a0 = sym (lower-trimmed 29 (r .a1) (r .a0) (omega arith) la) i;
+      b1 = sym (upper-trimmed 20 (r .b1) (r .b0) (omega arith) lb) i;
+      b0 = sym (lower-trimmed 20 (r .b1) (r .b0) (omega arith) lb) i;
+      c1 = sym (upper-trimmed 47 (r .c1) (r .c0) (omega arith) lc) i;
+      c0 = sym (lower-trimmed 47 (r .c1) (r .c0) (omega arith) lc) i;
+    }
 
 pub trimmed-spec : {M : Type 1} → statement M
 trimmed-spec = tie.close (tie.spec returns)

@@ -42,10 +42,11 @@ loop-less c = omega arith
 loop-again : tie.Need-loop-again Inv-loop μ-loop
 unfolding stepping
 loop-again c =
-    let l = c .before .before .before .loop in
-    (omega arith,
-    ap (λ (x : Stepped). x .next) (c .before .step .ensures)
-    ∙ one-more (c .before .before .before .before .args .self) (l .done) (l .registers) (l .inv .1))
+    let l = c .before .before .before .loop in (
+      omega arith,
+      ap (λ (x : Stepped). x .next) (c .before .step .ensures)
+          ∙ one-more (c .before .before .before .before .args .self) (l .done) (l .registers) (l .inv .1),
+    )
 
 returns : tie.Need-returns Inv-loop μ-loop
 returns c =

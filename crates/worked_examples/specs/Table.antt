@@ -1,0 +1,41 @@
+-- The examples that the product's paper marks to be proved, in its order: what a definition gives, and what the paper says.
+-- Assumes nothing.
+use mathlib.Core.Path.{_≡_}
+use Prim.Native.Nat.{ℕ, _+_, _-_, _^_}
+use mathlib.Core.List.{List, [], _∷_}
+use lib.ListN.{replicate}
+use Rattle.trivium.specs.Registers.{State, loaded, newA, newB, newC, outputBit}
+
+-- one example: what the definition gives, beside what the paper says
+pub data Row : Type 1 where
+  row : {A : Type 0} → A → A → Row
+
+-- The one statement: in every row the two are the same.
+abbrev pub Holds : List Row → Type 0
+Holds [] = Unit {0}
+Holds (row gives says ∷ rows) = (gives ≡ says) × Holds rows
+
+-- a register in which only x(i-k) is set
+abbrev pub only : ℕ → ℕ
+only k = 2 ^ (k - 1)
+
+-- the output bit, then the new bits of a, b and c
+abbrev pub seen : State → List ℕ
+seen s = outputBit s ∷ newA s ∷ newB s ∷ newC s ∷ []
+
+abbrev pub tenZeros : List ℕ
+tenZeros = replicate 10 0
+
+abbrev pub table : List Row
+table =
+    -- registers all 0: output 0, new bits 0, 0, 0
+    row (seen (record { a = 0; b = 0; c = 0 })) (0 ∷ 0 ∷ 0 ∷ 0 ∷ [])
+    -- only a(i-66) set: output 1, new b 1, new a and c 0
+    ∷ row (seen (record { a = only 66; b = 0; c = 0 })) (1 ∷ 0 ∷ 1 ∷ 0 ∷ [])
+    -- only a(i-92) and a(i-91) set: output 0, new b 1
+    ∷ row (outputBit (record { a = only 92 + only 91; b = 0; c = 0 }) ∷ newB (record { a = only 92 + only 91; b = 0; c = 0 }) ∷ []) (0 ∷ 1 ∷ [])
+    -- only c(i-110) and c(i-109) set: output 0, new a 1
+    ∷ row (outputBit (record { a = 0; b = 0; c = only 110 + only 109 }) ∷ newA (record { a = 0; b = 0; c = only 110 + only 109 }) ∷ []) (0 ∷ 1 ∷ [])
+    -- zero key and value just loaded: output 1, all new bits 0
+    ∷ row (seen (loaded tenZeros tenZeros)) (1 ∷ 0 ∷ 0 ∷ 0 ∷ [])
+    ∷ []
