@@ -1,11 +1,10 @@
 -- Exclusive or and conjunction, bit by bit: each law follows from the library's law on the two lowest bits.
 -- Assumes nothing.
-use mathlib.Core.Path.{_≡_, refl, sym, ap, ap₂, _∙_}
-use Prim.Native.Nat.{ℕ, zero, suc, _+_, _*_, _/_, _%_, _^_, _<_}
-use native.Mathlib.Nat.{add-comm, mod-lt}
+use mathlib.Core.Path.{_≡_, ap, _∙_}
+use Prim.Native.Nat.{ℕ, _+_, _/_, _%_}
 use native.Mathlib.Omega.{arith}
 use lib.Arith.{bin-ind}
-use lib.Bits.{bitXor, bitAnd, xor-add-and, xor-zero-l, xor-self, xor-shr, and-shr, and-step}
+use lib.Bits.{bitXor, xor-add-and, xor-zero-l, xor-self, xor-shr}
 
 -- the lowest bit of an exclusive or is the sum modulo 2
 pub xor-low : (x y : ℕ) → bitXor x y % 2 ≡ (x % 2 + y % 2) % 2
@@ -28,7 +27,3 @@ xor-twice =
     (let outer : bitXor (bitXor x z) z % 2 ≡ (bitXor x z % 2 + z % 2) % 2 = xor-low (bitXor x z) z in
     let inner : bitXor x z % 2 ≡ (x % 2 + z % 2) % 2 = xor-low x z in
     omega arith))
-
--- bit k of an exclusive or and of a conjunction
-pub xor-bit : (x y k : ℕ) → bitXor x y / 2 ^ k % 2 ≡ (x / 2 ^ k % 2 + y / 2 ^ k % 2) % 2
-xor-bit x y k = ap (λ (v : ℕ). v % 2) (xor-shr x y k) ∙ xor-low (x / 2 ^ k) (y / 2 ^ k)

@@ -3,14 +3,14 @@
 use mathlib.Core.Path.{_≡_, refl, sym, ap, ap₂, _∙_}
 use Prim.Native.Nat.{ℕ, zero, suc, _+_, _*_, _/_, _%_, _^_, _<_, _≤_}
 use mathlib.Core.List.{List, [], _∷_, _++_, append-assoc}
-use native.Mathlib.Nat.{add-zero, zero-add, add-assoc, add-comm, suc-add, pow-suc, le-of-suc-le-suc}
+use native.Mathlib.Nat.{zero-add, add-assoc, pow-suc}
 use native.Mathlib.Numerals.{one-add}
 use native.Mathlib.Omega.{arith}
 use lib.Bits.{bitXor, xor-shr, xor-mod}
-use lib.ListN.{length, getD, take, drop, length-append, length-take, length-drop, take-append-drop}
+use lib.ListN.{length, getD, take, drop, length-append, length-take, length-drop}
 use lib.Pow.{pow-add}
-use lib.Seq.{take-add, take-at, drop-at, drop-drop, drop-cons, length-take-le, sets, sets-eq, paste-zero}
-use Rattle.octets.specs.Digits.{number, numberAfter, digits}
+use lib.Seq.{take-add, take-at, drop-at, drop-drop, length-take-le, paste-zero}
+use Rattle.octets.specs.Digits.{number, digits}
 use Rattle.octets.specs.Stream.{Keystream, from, enciphered, placed}
 use Rattle.octets.proofs.Bits.{xor-twice}
 use Rattle.octets.proofs.Numbers.{Below, digits-number}
@@ -54,11 +54,6 @@ pub enciphered-nothing : (k : Keystream) → enciphered k [] ≡ []
 unfolding enciphered
 enciphered-nothing k = refl
 
--- one byte
-pub enciphered-one : (k : Keystream) (x : ℕ) → enciphered k (x ∷ []) ≡ bitXor x (k 0) ∷ []
-unfolding enciphered
-enciphered-one k x = refl
-
 -- ---- a number's bytes, enciphered all at once
 
 pub power-of-bytes : (n : ℕ) → 256 ^ n ≡ 2 ^ (8 * n)
@@ -96,15 +91,6 @@ module _ {A : Type 0} where
   pub placed-nothing : (buffer : List A) (at : ℕ) → placed buffer at [] ≡ buffer
   unfolding placed
   placed-nothing buffer at = sym (paste-zero buffer at [])
-
-  pub length-placed : (buffer : List A) (at : ℕ) (run : List A) → at + length run ≤ length buffer → length (placed buffer at run) ≡ length buffer
-  unfolding placed
-  length-placed buffer at run h = simp (length-append, length-take, length-drop) (omega arith)
-
-  -- stores one after the other are a run
-  pub stores-placed : (buffer : List A) (at : ℕ) (run : List A) → at + length run ≤ length buffer → sets buffer at run ≡ placed buffer at run
-  unfolding placed
-  stores-placed buffer at run h = sets-eq run buffer at h
 
   -- two runs, the second right behind the first
   pub placed-append : (buffer : List A) (at : ℕ) (xs ys : List A) → at + length xs + length ys ≤ length buffer

@@ -1,12 +1,12 @@
 -- Steps as iteration: the laws of n steps and of the bits that they put out, and the states that a record can hold.
 -- Assumes nothing.
 use mathlib.Core.Path.{_≡_, refl, sym, ap, ap₂, subst, _∙_}
-use Prim.Native.Nat.{ℕ, zero, suc, _+_, _-_, _*_, _/_, _%_, _^_, _<_, _≤_}
+use Prim.Native.Nat.{ℕ, zero, suc, _+_, _-_, _*_, _/_, _%_, _^_, _<_}
 use mathlib.Core.List.{List, [], _∷_, _++_}
 use native.Mathlib.Nat.{zero-add, suc-add, mod-lt, mod-eq-of-lt}
 use native.Mathlib.Numerals.{add-one}
 use native.Mathlib.Omega.{arith}
-use lib.ListN.{length, getD}
+use lib.ListN.{length}
 use lib.Bits.{xor-lt, and-lt}
 use lib.Pow.{pow-pos, shr-lt, shr-shr, mod-mod-pow, low}
 use Rattle.octets.specs.Digits.{number, numberAfter}
@@ -14,7 +14,7 @@ use Rattle.octets.specs.Stream.{Keystream, from}
 use Rattle.octets.proofs.Numbers.{Below, after-append}
 use Rattle.trivium.specs.Calls.{skipping}
 use Rattle.trivium.specs.Registers.{State, newA, newB, newC, moved, next, steps, outputBit}
-use Rattle.trivium.specs.Keystream.{bits, keystream}
+use Rattle.trivium.specs.Keystream.{bits}
 use Rattle.trivium.specs.Record.{state, packed}
 use Rattle.trivium.specs.declared.Registers.{Registers}
 use Rattle.trivium.proofs.Words.{joined-apart, grown, run, rule, sum, newWord, new-bit, grown-more, tap-grown, output-by, sum-shr}

@@ -1,8 +1,8 @@
 -- Registers as numbers, one law over the width and the tap: a run of n new bits scales what was there by 2 ^ n.
 -- Assumes nothing.
-use mathlib.Core.Path.{_≡_, refl, sym, ap, ap₂, subst, _∙_}
+use mathlib.Core.Path.{_≡_, sym, ap, ap₂, subst, _∙_}
 use Prim.Native.Nat.{ℕ, zero, suc, _+_, _-_, _*_, _/_, _%_, _^_, _<_, _≤_, min}
-use native.Mathlib.Nat.{add-zero, zero-add, add-assoc, add-comm, add-mul, mul-assoc, mul-comm, pow-suc, mod-lt, mod-eq-of-lt, add-mod, mul-add-mod-self-right, add-mul-div-right}
+use native.Mathlib.Nat.{add-assoc, add-comm, add-mul, mul-assoc, mul-comm, pow-suc, mod-eq-of-lt, add-mod, mul-add-mod-self-right, add-mul-div-right}
 use native.Mathlib.Numerals.{add-one}
 use native.Mathlib.Omega.{arith}
 use lib.Bits.{bitXor, bitAnd, bitOr, and-step, and-shr, xor-shr}
@@ -257,12 +257,6 @@ module _ (p upper lower v : ℕ) (small : p ≤ 64) (hl : lower < 2 ^ 64) (hv : 
       ∙ sym (mod-mod-pow (upper * 2 ^ 64 + lower) (64 - p) p)
       ∙ ap (λ (q : ℕ). (upper * 2 ^ 64 + lower) % 2 ^ q % 2 ^ p) wide
       ∙ ap (λ (x : ℕ). x % 2 ^ p) (low upper 64 hl)
-
-  pub lower-strode : grown (p + 64) (joined (p + 64) upper lower) 64 v % 2 ^ 64 ≡ v
-  lower-strode =
-      ap (λ (x : ℕ). x % 2 ^ 64) (grown-mod (p + 64) (upper * 2 ^ 64 + lower) 64 v)
-      ∙ mod-mod-pow ((upper * 2 ^ 64 + lower) * 2 ^ 64 + v) p 64
-      ∙ low (upper * 2 ^ 64 + lower) 64 hv
 
 -- ---- nothing new: spare bits go, and what was packed is there again
 module _ (p upper lower : ℕ) (small : p ≤ 64) (hl : lower < 2 ^ 64) where

@@ -1,16 +1,15 @@
 -- `octets::write_number` meets its contract: after i turns the first i of the number's bytes stand in their place.
 -- Assumes nothing.
 use mathlib.Core.Path.{_≡_, refl, sym, ap, ap₂, _∙_}
-use Prim.Native.Nat.{ℕ, zero, suc, _+_, _-_, _*_, _/_, _%_, _^_, _<_, _≤_, min}
+use Prim.Native.Nat.{ℕ, _+_, _-_, _*_, _/_, _%_, _^_, _<_, _≤_}
 use mathlib.Core.Bool.{Bool, true, false, cond}
-use mathlib.Core.List.{List, [], _∷_, _++_}
-use native.Mathlib.Nat.{mod-lt}
+use mathlib.Core.List.{List, _++_}
 use native.Mathlib.Numerals.{add-one}
 use native.Mathlib.Omega.{arith}
 use borrow.Author.Tests.{le-leb, lt-leb}
 use lib.Dec.{leb}
-use lib.ListN.{length, getD, set, take, drop, length-set}
-use lib.Seq.{paste, paste-zero, paste-suc, take-all, length-paste}
+use lib.ListN.{length, set, take, drop, length-set}
+use lib.Seq.{paste, paste-zero, paste-suc, take-all}
 use Rattle.octets.specs.Digits.{digits}
 use Rattle.octets.specs.Stream.{placed, numberPlaced}
 use Rattle.octets.proofs.Numbers.{digit-at, length-digits}

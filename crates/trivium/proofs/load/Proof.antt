@@ -1,6 +1,6 @@
 -- `trivium::load` meets its contract: the words that the code reads are those of the loaded registers.
 -- Assumes nothing.
-use mathlib.Core.Path.{_≡_, ap, _∙_}
+use mathlib.Core.Path.{ap, _∙_}
 use Prim.Native.Nat.{ℕ, _/_, _%_, _^_}
 use mathlib.Core.List.{List}
 use native.Mathlib.Omega.{arith}

@@ -4,7 +4,7 @@ use mathlib.Core.Path.{_≡_, sym, _∙_}
 use Prim.Native.Nat.{ℕ, _-_, _*_, _/_, _%_, _^_, _<_, _≤_}
 use native.Mathlib.Omega.{arith}
 use lib.Bits.{bitOr}
-use Rattle.trivium.specs.Record.{state, joined}
+use Rattle.trivium.specs.Record.{state}
 use Rattle.trivium.specs.Registers.{State}
 use Rattle.trivium.proofs.Steps.{held-state, strides, wordA, wordB, wordC, wordZ}
 use Rattle.trivium.proofs.Words.{run, rule, sum, run-joined}

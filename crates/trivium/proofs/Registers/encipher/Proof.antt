@@ -1,19 +1,19 @@
 -- `trivium::Registers::encipher` meets its contract: after each turn the input is enciphered as far as `at`, and the registers have gone as far.
 -- Assumes nothing.
 use mathlib.Core.Path.{_≡_, refl, sym, ap, ap₂, _∙_}
-use Prim.Native.Nat.{ℕ, _+_, _-_, _*_, _<_, _≤_}
-use mathlib.Core.List.{List, []}
+use Prim.Native.Nat.{ℕ, _+_, _-_, _*_, _≤_}
+use mathlib.Core.List.{List}
 use native.Mathlib.Omega.{arith}
 use borrow.Author.Tests.{lt-ltb, le-ltb}
 use lib.ListN.{length, take, drop}
 use lib.Seq.{take-all}
-use Rattle.octets.specs.Outcome.{Outcome, outcome}
+use Rattle.octets.specs.Outcome.{outcome}
 use Rattle.octets.specs.Stream.{Keystream, from, enciphered, placed}
 use Rattle.octets.proofs.Streams.{placed-enciphered, placed-nothing, enciphered-nothing}
 use Rattle.trivium.specs.Calls.{skipping, enciphering}
 use Rattle.trivium.specs.Keystream.{keystream}
 use Rattle.trivium.specs.Record.{state, packed}
-use Rattle.trivium.specs.Registers.{State, steps}
+use Rattle.trivium.specs.Registers.{steps}
 use Rattle.trivium.specs.declared.Enciphered.{Enciphered}
 use Rattle.trivium.specs.declared.Registers.{Registers}
 use Rattle.trivium.proofs.Bytes.{keystream-from}

@@ -1,7 +1,7 @@
 -- `trivium::Registers::encipher_some` meets its contract: bytes and keystream bits are numbers of the same length, and their exclusive or, written back, is the run enciphered.
 -- Assumes nothing.
-use mathlib.Core.Path.{_≡_, refl, sym, ap, ap₂, subst, _∙_}
-use Prim.Native.Nat.{ℕ, _+_, _*_, _%_, _^_, _<_, _≤_}
+use mathlib.Core.Path.{_≡_, sym, ap, ap₂, subst, _∙_}
+use Prim.Native.Nat.{ℕ, _+_, _*_, _^_, _<_, _≤_}
 use mathlib.Core.List.{List}
 use native.Mathlib.Nat.{mod-eq-of-lt, lt-of-lt-of-le, pow-le-pow-right}
 use native.Mathlib.Omega.{arith}
@@ -12,7 +12,6 @@ use lib.ListN.{length, take, drop, length-take, length-drop}
 use Rattle.octets.specs.Digits.{number, numberAt, digits}
 use Rattle.octets.specs.Stream.{enciphered, placed, numberPlaced}
 use Rattle.octets.proofs.Numbers.{Below, below-take, below-drop, number-below}
-use Rattle.trivium.specs.Calls.{skipping}
 use Rattle.trivium.specs.Keystream.{bits, keystream}
 use Rattle.trivium.specs.Record.{state}
 use Rattle.trivium.specs.Registers.{State}

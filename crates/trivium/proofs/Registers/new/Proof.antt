@@ -1,7 +1,7 @@
 -- `trivium::Registers::new` meets its contract: the two lengths decide, and what is loaded is held, so that the warm-up can start from it.
 -- Assumes nothing.
-use mathlib.Core.Path.{_≡_, refl, sym, ap, _∙_}
-use Prim.Native.Nat.{ℕ, _<_, _^_}
+use mathlib.Core.Path.{_≡_, sym, ap, _∙_}
+use Prim.Native.Nat.{ℕ}
 use mathlib.Core.List.{List}
 use native.Mathlib.Omega.{arith}
 use borrow.Author.Needs.{needs}
@@ -10,7 +10,6 @@ use lib.ListN.{length}
 use Rattle.trivium.specs.Calls.{making}
 use Rattle.trivium.specs.Record.{state, packed}
 use Rattle.trivium.specs.Registers.{State, loaded, started, steps, warmUp}
-use Rattle.trivium.specs.declared.Made.{Made}
 use Rattle.trivium.specs.declared.Registers.{Registers}
 use Rattle.trivium.proofs.Loading.{held-loaded}
 use Rattle.trivium.proofs.Steps.{state-packed, Held}

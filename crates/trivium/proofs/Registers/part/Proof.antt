@@ -1,6 +1,6 @@
 -- `trivium::Registers::part` meets its contract: `partly` says what n of 64 steps leave, and packing takes it apart as the shifts do.
 -- Assumes nothing.
-use mathlib.Core.Path.{_≡_, refl, sym, ap, _∙_}
+use mathlib.Core.Path.{_≡_, sym, ap, _∙_}
 use Prim.Native.Nat.{ℕ, _+_, _-_, _*_, _/_, _%_, _^_, _<_, _≤_}
 use native.Mathlib.Omega.{arith}
 use borrow.Author.Needs.{needs}
@@ -12,7 +12,7 @@ use Rattle.trivium.specs.Record.{state, packed, joined}
 use Rattle.trivium.specs.Registers.{State, steps}
 use Rattle.trivium.specs.declared.Registers.{Registers}
 use Rattle.trivium.specs.declared.Strode.{Strode}
-use Rattle.trivium.proofs.Steps.{held-state, partly, put-out, strides, after, front, word-a, word-b, word-c, wordA, wordB, wordC, wordZ}
+use Rattle.trivium.proofs.Steps.{held-state, partly, put-out, strides, after, front, word-a, word-b, word-c, wordA, wordB, wordC}
 use Rattle.trivium.proofs.Words.{grown, upper-grown, lower-grown}
 use Rattle.trivium.proofs.Registers.part.Statement.{statement}
 use Rattle.trivium.proofs.Registers.part.Tie as tie
@@ -24,7 +24,7 @@ returns : tie.Need-returns
 unfolding bits numberAfter skipping steps
 returns c =
     let r = c .before .before .args .self in
-    let none : 0 ≡ c .before .before .args .bytes = sym (c .before .if1 .taken) in
+    let none : 0 ≡ c .before .before .args .bytes = omega arith in
     (ap (λ (b : ℕ). number 2 (bits (8 * b) (state r))) none, c .trimmed .ensures ∙ ap (skipping r) none)
 
 stride-requires : tie.Need-stride-requires
@@ -34,7 +34,7 @@ returns-2 : tie.Need-returns-2
 unfolding striding skipping
 returns-2 c =
     let r = c .before .before .before .args .self in
-    let all : 8 ≡ c .before .before .before .args .bytes = sym (c .before .if2 .taken) in (
+    let all : 8 ≡ c .before .before .before .args .bytes = omega arith in (
       ap (λ (x : Strode). x .word) (c .stride .ensures) ∙ ap (λ (b : ℕ). number 2 (bits (8 * b) (state r))) all,
       ap (λ (x : Strode). x .next) (c .stride .ensures) ∙ ap (skipping r) all,
     )

@@ -1,11 +1,10 @@
 -- `trivium::Registers::skip` meets its contract: each turn takes eight bytes off and goes 64 steps on.
 -- Assumes nothing.
-use mathlib.Core.Path.{_≡_, refl, sym, ap, _∙_}
-use Prim.Native.Nat.{ℕ, _+_, _-_, _*_, _<_, _≤_}
+use mathlib.Core.Path.{_≡_, refl, ap, _∙_}
+use Prim.Native.Nat.{_+_, _-_, _≤_}
 use native.Mathlib.Omega.{arith}
 use Rattle.trivium.specs.Calls.{striding, skipping}
-use Rattle.trivium.specs.Record.{state, packed}
-use Rattle.trivium.specs.Registers.{State, steps}
+use Rattle.trivium.specs.Registers.{steps}
 use Rattle.trivium.specs.declared.Strode.{Strode}
 use Rattle.trivium.specs.declared.Registers.{Registers}
 use Rattle.trivium.proofs.Steps.{skip-add}

@@ -2,13 +2,12 @@
 -- Assumes nothing.
 use mathlib.Core.Path.{_≡_, refl, sym, ap, _∙_}
 use Prim.Native.Nat.{ℕ, _+_, _*_, _/_, _%_, _^_, _<_, _≤_}
-use native.Mathlib.Nat.{mod-lt}
 use native.Mathlib.Omega.{arith}
 use lib.Bits.{bitOr}
 use Rattle.trivium.specs.Calls.{stepping}
 use Rattle.trivium.specs.Record.{state, packed, joined}
-use Rattle.trivium.specs.Registers.{State, moved, newBit, next, outputBit}
-use Rattle.trivium.proofs.Words.{rule, new-upper, tap-upper, output-by, moved-grown, upper-grown, lower-grown}
+use Rattle.trivium.specs.Registers.{moved, next}
+use Rattle.trivium.proofs.Words.{new-upper, tap-upper, output-by, moved-grown, upper-grown, lower-grown}
 use Rattle.trivium.proofs.Registers.step.Statement.{statement}
 use Rattle.trivium.proofs.Registers.step.Tie as tie
 

@@ -1,10 +1,10 @@
 -- `trivium::Registers::stride` meets its contract: after 64 steps a register's newest word is new, and its upper word is what was newest.
 -- Assumes nothing.
 use mathlib.Core.Path.{_≡_, refl, sym, ap, _∙_}
-use Prim.Native.Nat.{ℕ, _+_, _*_, _/_, _%_, _^_, _<_, _≤_}
+use Prim.Native.Nat.{_/_, _^_, _<_}
 use native.Mathlib.Omega.{arith}
 use Rattle.trivium.specs.Calls.{striding}
-use Rattle.trivium.specs.Record.{state, packed, joined}
+use Rattle.trivium.specs.Record.{state, packed}
 use Rattle.trivium.specs.Registers.{State, steps}
 use Rattle.trivium.proofs.Steps.{held-state, partly, after, front, word-a, word-b, word-c, wordA, wordB, wordC}
 use Rattle.trivium.proofs.Words.{upper-strode}

@@ -1,7 +1,7 @@
 -- `trivium::Registers::trimmed` meets its contract: packing keeps the remainder of an upper word, and the lower words.
 -- Assumes nothing.
-use mathlib.Core.Path.{_≡_, sym}
-use Prim.Native.Nat.{ℕ, _^_, _<_, _≤_}
+use mathlib.Core.Path.{sym}
+use Prim.Native.Nat.{_^_, _<_}
 use native.Mathlib.Omega.{arith}
 use Rattle.trivium.specs.Record.{state, packed}
 use Rattle.trivium.proofs.Words.{upper-trimmed, lower-trimmed}
