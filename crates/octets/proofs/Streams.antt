@@ -1,15 +1,15 @@
 -- The laws of bytes under any keystream. Each goes along the bytes, and moves the keystream on by one at each.
 -- Assumes nothing.
 use mathlib.Core.Path.{_≡_, refl, sym, ap, ap₂, _∙_}
-use Prim.Native.Nat.{ℕ, zero, suc, _+_, _*_, _/_, _%_, _^_, _<_, _≤_}
-use mathlib.Core.List.{List, [], _∷_, _++_, append-assoc}
+use Prim.Native.Nat.{ℕ, zero, suc, _+_, _*_, _-_, _/_, _%_, _^_, _<_, _≤_}
+use mathlib.Core.List.{List, [], _∷_, _++_, append-assoc, append-nil}
 use native.Mathlib.Nat.{zero-add, add-assoc, pow-suc}
 use native.Mathlib.Numerals.{one-add}
 use native.Mathlib.Omega.{arith}
 use lib.Bits.{bitXor, xor-shr, xor-mod}
-use lib.ListN.{length, getD, take, drop, length-append, length-take, length-drop}
+use lib.ListN.{length, getD, take, drop, length-append, length-take, length-drop, drop-of-length-le}
 use lib.Pow.{pow-add}
-use lib.Seq.{take-add, take-at, drop-at, drop-drop, length-take-le, paste-zero}
+use lib.Seq.{take-add, take-at, drop-at, drop-drop, length-take-le, paste-zero, take-all}
 use Rattle.octets.specs.Digits.{number, digits}
 use Rattle.octets.specs.Stream.{Keystream, from, enciphered, placed}
 use Rattle.octets.proofs.Bits.{xor-twice}
@@ -145,3 +145,18 @@ placed-cut buffer xs ys h =
     (ap (λ (n : ℕ). drop n buffer) (zero-add (length (xs ++ ys)) ∙ length-append xs ys)
     ∙ sym (drop-drop (length ys) (length xs) buffer)
     ∙ ap (λ (n : ℕ). drop n (drop (length xs) buffer)) (sym (zero-add (length ys))))
+
+-- a run written to the front of the part from `at` on stands at `at` in the whole
+pub placed-part : {A : Type 0} (buffer : List A) (at : ℕ) (run : List A) → at + length run ≤ length buffer
+    → take at buffer ++ (placed (take (length buffer - at) (drop at buffer)) 0 run ++ drop (length buffer - at) (drop at buffer)) ≡ placed buffer at run
+unfolding placed
+placed-part buffer at run h =
+    let k : ℕ = length buffer - at in
+    let long : length (drop at buffer) ≡ k = length-drop at buffer in
+    let part : take k (drop at buffer) ≡ drop at buffer = take-all k (drop at buffer) (omega arith) in
+    let none : drop k (drop at buffer) ≡ [] = drop-of-length-le (drop at buffer) {i = k} (omega arith) in
+    let rest : drop (0 + length run) (drop at buffer) ≡ drop (at + length run) buffer =
+    ap (λ (n : ℕ). drop n (drop at buffer)) (zero-add (length run)) ∙ drop-drop (length run) at buffer in
+    ap₂ (λ (p e : List _). take at buffer ++ (run ++ drop (0 + length run) p ++ e)) part none
+    ∙ ap (λ (l : List _). take at buffer ++ l) (append-nil (run ++ drop (0 + length run) (drop at buffer)) ∙ ap (λ (l : List _). run ++ l) rest)
+    ∙ sym (append-assoc (take at buffer) run (drop (at + length run) buffer))

@@ -13,6 +13,40 @@ badKey = 1
 abbrev pub badValue : ℕ
 badValue = 2
 
+-- file ends inside a section
+abbrev pub cutShort : ℕ
+cutShort = 10
+
+-- name count over 32; a name byte outside 32..126
+abbrev pub longName : ℕ
+longName = 11
+
+abbrev pub badName : ℕ
+badName = 12
+
+-- key count not the cipher's; key number over 3
+abbrev pub badKeyCount : ℕ
+badKeyCount = 13
+
+abbrev pub badKeyNumber : ℕ
+badKeyNumber = 14
+
+-- sample count over 16,384
+abbrev pub manySamples : ℕ
+manySamples = 15
+
+-- loop count over 8, or an odd run in sealing
+abbrev pub manyLoops : ℕ
+manyLoops = 16
+
+-- a loop out of rule
+abbrev pub badLoop : ℕ
+badLoop = 17
+
+-- bytes after the loops
+abbrev pub moreBytes : ℕ
+moreBytes = 18
+
 -- output too short
 abbrev pub noRoom : ℕ
 noRoom = 19

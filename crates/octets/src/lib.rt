@@ -1,5 +1,6 @@
 ghost use mathlib.Core.Path.{_≡_};
 ghost use Prim.Native.Nat.{_-_, min};
+ghost use lib.ListN.{take, drop};
 ghost use Rattle.octets.specs.Digits.{numberAt};
 ghost use Rattle.octets.specs.Stream.{numberPlaced};
 
@@ -11,6 +12,18 @@ fn there(len: usize, at: usize, n: usize) -> usize
         return 0;
     }
     if n < len - at { n } else { len - at }
+}
+
+// The n elements from `at`, or as many of them as are there.
+pub fn part(s: &[u8], at: usize, n: usize) -> &[u8]
+    ensures { λ r. ⌜ now r ≡ take n (drop at (now (s .entry))) ⌝ }
+{
+    let count = there(s.len(), at, n);
+    if count == 0 {
+        return &s[..0];
+    }
+    let end = at + count;
+    &s[at..end]
 }
 
 // The number that n bytes from `at` make, the most significant first.

@@ -13,7 +13,7 @@ use Rattle.octets.specs.Digits.{number, numberAfter}
 use Rattle.octets.specs.Stream.{Keystream, from}
 use Rattle.octets.proofs.Numbers.{Below, after-append}
 use Rattle.trivium.specs.Calls.{skipping}
-use Rattle.trivium.specs.Registers.{State, newA, newB, newC, moved, next, steps, outputBit}
+use Rattle.trivium.specs.Registers.{State, loaded, started, newA, newB, newC, moved, next, steps, outputBit}
 use Rattle.trivium.specs.Keystream.{bits}
 use Rattle.trivium.specs.Record.{state, packed}
 use Rattle.trivium.specs.declared.Registers.{Registers}
@@ -23,6 +23,10 @@ pub steps-add : (n m : ℕ) (s : State) → steps (n + m) s ≡ steps m (steps n
 unfolding steps
 steps-add zero m s = ap (λ (k : ℕ). steps k s) (zero-add m)
 steps-add (suc n) m s = ap (λ (k : ℕ). steps k s) (suc-add n m) ∙ steps-add n m (next s)
+
+pub steps-none : (s : State) → steps 0 s ≡ s
+unfolding steps
+steps-none s = refl
 
 pub steps-suc : (n : ℕ) (s : State) → steps (suc n) s ≡ next (steps n s)
 unfolding steps
@@ -251,3 +255,8 @@ unfolding skipping
 skip-add r n m =
     ap (λ (t : State). packed (steps (8 * m) t)) (state-skip r n)
     ∙ ap packed (sym (steps-bytes n m (state r)))
+
+-- whatever was loaded, what is started is held
+pub state-started : (key iv : List ℕ) → state (packed (started key iv)) ≡ started key iv
+unfolding steps
+state-started key iv = state-packed (started key iv) (held-steps 1151 (next (loaded key iv)) (held-next (loaded key iv)))

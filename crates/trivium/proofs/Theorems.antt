@@ -4,7 +4,7 @@ use mathlib.Core.Path.{_≡_, refl, sym, ap, ap₂, _∙_}
 use Prim.Native.Nat.{ℕ, zero, suc, _+_, _*_, _^_, _<_, _≤_}
 use mathlib.Core.List.{List, _∷_, _++_}
 use native.Mathlib.Omega.{arith}
-use borrow.Author.Tests.{le-ltb}
+use borrow.Author.Tests.{le-ltb, eq-eqb}
 use lib.ListN.{length, take, drop, length-append, length-drop}
 use lib.Pow.{shr-lt}
 use Rattle.octets.specs.Digits.{number}
@@ -16,7 +16,7 @@ use Rattle.trivium.specs.Calls.{making, stepping, striding, skipping, en
 use Rattle.trivium.specs.Engines.{plainly, plainBits}
 use Rattle.trivium.specs.Keystream.{bits, keystream}
 use Rattle.trivium.specs.Record.{state, packed}
-use Rattle.trivium.specs.Registers.{State, next, steps, outputBit}
+use Rattle.trivium.specs.Registers.{State, next, steps, started, outputBit}
 use Rattle.trivium.specs.declared.Enciphered.{Enciphered}
 use Rattle.trivium.specs.declared.Made.{Made}
 use Rattle.trivium.specs.declared.Registers.{Registers}
@@ -41,6 +41,11 @@ skipping-only r n one other = only-one
 
 pub enciphering-only : (r : Registers) (input output : List ℕ) (one other : Outcome Enciphered ℕ) → one ≡ enciphering r input output → other ≡ enciphering r input output → one ≡ other
 enciphering-only r input output one other = only-one
+
+-- a key and a value of ten bytes each aren't refused
+pub makes : (key iv : List ℕ) → length key ≡ 10 → length iv ≡ 10 → making key iv ≡ record { refusal = accepted; registers = packed (started key iv) }
+unfolding making
+makes key iv ten teni = rw (eq-eqb (length key) 10 ten, eq-eqb (length iv) 10 teni)
 
 -- ---- both engines
 

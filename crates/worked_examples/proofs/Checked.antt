@@ -2,9 +2,10 @@
 -- Assumes nothing.
 use mathlib.Core.Path.{refl}
 use Rattle.octets.specs.Digits.{digits, numberAfter, bitsOf}
+use Rattle.samples.specs.Words.{signed}
 use Rattle.trivium.specs.Registers.{loaded, outputBit}
 use Rattle.worked_examples.specs.Table.{Holds, table}
 
 pub checked : Holds table
-unfolding digits numberAfter bitsOf loaded outputBit
-checked = (refl, (refl, (refl, (refl, (refl, tt)))))
+unfolding digits numberAfter bitsOf signed loaded outputBit
+checked = (refl, (refl, (refl, (refl, (refl, (refl, (refl, (refl, (refl, tt)))))))))

@@ -3,7 +3,9 @@
 use mathlib.Core.Path.{_≡_}
 use Prim.Native.Nat.{ℕ, _+_, _-_, _^_}
 use mathlib.Core.List.{List, [], _∷_}
+use lib.IntN.{pos, negsuc}
 use lib.ListN.{replicate}
+use Rattle.samples.specs.Words.{wordOf}
 use Rattle.trivium.specs.Registers.{State, loaded, newA, newB, newC, outputBit}
 
 -- one example: what the definition gives, beside what the paper says
@@ -28,8 +30,13 @@ tenZeros = replicate 10 0
 
 abbrev pub table : List Row
 table =
+    -- words: FF FE is -2, 80 00 is -32768, 00 80 is 128, 7F FF is 32767
+    row (wordOf 0xFF 0xFE) (negsuc 1)
+    ∷ row (wordOf 0x80 0x00) (negsuc 32767)
+    ∷ row (wordOf 0x00 0x80) (pos 128)
+    ∷ row (wordOf 0x7F 0xFF) (pos 32767)
     -- registers all 0: output 0, new bits 0, 0, 0
-    row (seen (record { a = 0; b = 0; c = 0 })) (0 ∷ 0 ∷ 0 ∷ 0 ∷ [])
+    ∷ row (seen (record { a = 0; b = 0; c = 0 })) (0 ∷ 0 ∷ 0 ∷ 0 ∷ [])
     -- only a(i-66) set: output 1, new b 1, new a and c 0
     ∷ row (seen (record { a = only 66; b = 0; c = 0 })) (1 ∷ 0 ∷ 1 ∷ 0 ∷ [])
     -- only a(i-92) and a(i-91) set: output 0, new b 1

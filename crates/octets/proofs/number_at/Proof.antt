@@ -1,9 +1,8 @@
 -- `octets::number_at` meets its contract: after i turns the value is the number that the first i of the bytes make.
 -- Assumes nothing.
 use mathlib.Core.Path.{_≡_, refl, sym, ap, _∙_}
-use Prim.Native.Nat.{ℕ, zero, suc, _+_, _-_, _*_, _%_, _^_, _<_, _≤_, min}
-use mathlib.Core.List.{List, [], _∷_}
-use native.Mathlib.Nat.{zero-min, min-zero, suc-min-suc}
+use Prim.Native.Nat.{ℕ, _+_, _-_, _*_, _%_, _^_, _<_, _≤_, min}
+use mathlib.Core.List.{List}
 use native.Mathlib.Numerals.{add-one}
 use native.Mathlib.Omega.{arith}
 use lib.Bits.{bitOr}
@@ -11,6 +10,7 @@ use lib.ListN.{length, getD, take, drop, length-drop}
 use lib.Seq.{take-suc, getD-drop}
 use Rattle.octets.specs.Digits.{number, numberAt, numberAfter}
 use Rattle.octets.proofs.Numbers.{number-snoc}
+use Rattle.octets.proofs.Runs.{take-there}
 use Rattle.octets.proofs.Shifts.{moved-up, multiple-mod}
 use Rattle.octets.proofs.number_at.Statement.{statement}
 use Rattle.octets.proofs.number_at.Tie as tie
@@ -35,16 +35,9 @@ read-more s at i h b =
     ∙ ap (number 256) (sym (take-suc rest i 0 (omega arith)))
     ∙ ap (λ (k : ℕ). number 256 (take k rest)) (sym (add-one i)))
 
-take-min : (n : ℕ) (l : List ℕ) → take (min n (length l)) l ≡ take n l
-take-min zero l = ap (λ (k : ℕ). take k l) (zero-min (length l))
-take-min (suc n) [] = ap (λ (k : ℕ). take k []) (min-zero (suc n))
-take-min (suc n) (x ∷ l) = ap (λ (k : ℕ). take k (x ∷ l)) (suc-min-suc n (length l)) ∙ ap (λ (r : List ℕ). x ∷ r) (take-min n l)
-
 -- no more than there are
 read-all : (s : List ℕ) (at n count : ℕ) → count ≡ min n (length s - at) → numberAt s at count ≡ numberAt s at n
-read-all s at n count e =
-    ap (λ (l : List ℕ). number 256 l % 2 ^ 64)
-    (ap (λ (k : ℕ). take k (drop at s)) (e ∙ ap (min n) (sym (length-drop at s))) ∙ take-min n (drop at s))
+read-all s at n count e = ap (λ (l : List ℕ). number 256 l % 2 ^ 64) (take-there s at n count e)
 
 there-requires : tie.Need-there-requires Inv-loop μ-loop
 there-requires c κs = tt

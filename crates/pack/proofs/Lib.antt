@@ -1,0 +1,9 @@
+pub mod Accepted
+pub mod Demand2
+pub mod Fours
+pub mod Front
+pub mod Laid
+pub mod Order
+pub mod Runs
+pub mod Sections
+pub mod Theorems

@@ -1,0 +1,39 @@
+-- Nothing else meets a promise: each promise about a pack is an equation. And what the ring's making comes to.
+-- Assumes nothing.
+use mathlib.Core.Path.{_≡_}
+use Prim.Native.Nat.{ℕ, _≤_}
+use mathlib.Core.Bool.{Bool}
+use mathlib.Core.List.{List}
+use borrow.Author.Tests.{le-ltb, eq-eqb}
+use lib.IntN.{ℤ}
+use lib.ListN.{length}
+use Rattle.octets.specs.Outcome.{Outcome, only-one}
+use Rattle.pack.specs.Calls.{opening, sealing}
+use Rattle.pack.specs.Layout.{Parts, nameGood, row}
+use Rattle.pack.specs.Ring.{making, madeUnder}
+use Rattle.pack.specs.Suite.{Suite}
+use Rattle.pack.specs.declared.Opened.{Opened}
+use Rattle.pack.specs.declared.Sealed.{Sealed}
+use Rattle.trivium.specs.Record.{packed}
+use Rattle.trivium.specs.Registers.{started}
+use Rattle.trivium.specs.declared.Made.{Made}
+
+pub name-good-only : (name : List ℕ) (one other : Bool) → one ≡ nameGood name → other ≡ nameGood name → one ≡ other
+name-good-only name one other = only-one
+
+pub making-only : (ring : List (List ℕ)) (number : ℕ) (value : List ℕ) (one other : Made) → one ≡ making ring number value → other ≡ making ring number value → one ≡ other
+making-only ring number value one other = only-one
+
+pub opening-only : (suite : Suite) (ring : List (List ℕ)) (file : List ℕ) (output : List ℤ) (one other : Outcome Opened ℤ)
+    → one ≡ opening suite ring file output → other ≡ opening suite ring file output → one ≡ other
+opening-only suite ring file output one other = only-one
+
+pub sealing-only : (suite : Suite) (ring : List (List ℕ)) (p : Parts) (output : List ℕ) (one other : Outcome Sealed ℕ)
+    → one ≡ sealing suite ring p output → other ≡ sealing suite ring p output → one ≡ other
+sealing-only suite ring p output one other = only-one
+
+-- with a number of the ring and a value of ten bytes, the cipher is the row's
+pub ring-makes : (ring : List (List ℕ)) (number : ℕ) (value : List ℕ) → number ≤ 3 → length value ≡ 10
+    → making ring number value .registers ≡ packed (started (row ring number) value)
+unfolding making madeUnder
+ring-makes ring number value small ten = rw (le-ltb 3 number small, eq-eqb (length value) 10 ten)

@@ -1,0 +1,72 @@
+ghost use mathlib.Core.Path.{_≡_};
+ghost use Rattle.pack.specs.Layout.{nameGood};
+ghost use Rattle.pack.specs.Ring.{making, madeUnder};
+use trivium::Made;
+use trivium::Registers;
+
+// What opening answers. A refused answer has 0 for every other number.
+pub struct Opened {
+    pub refusal: u8,
+    pub samples: usize,
+    pub key: u8,
+    pub loops: usize,
+    pub name_length: usize,
+    pub name_at: usize,
+    pub value_at: usize,
+    pub loops_at: usize,
+}
+
+// What sealing answers: the file's length, or 0 with a refusal.
+pub struct Sealed {
+    pub refusal: u8,
+    pub length: usize,
+}
+
+const BAD_KEY_NUMBER: u8 = 14;
+
+// Whether each byte of a name is one that a name may have.
+pub fn name_good(name: &[u8]) -> bool
+    ensures { λ r. ⌜ r ≡ nameGood (now (name .entry)) ⌝ }
+{
+    let mut i = 0;
+    while i < name.len() {
+        let byte = name[i];
+        if byte < 32 {
+            return false;
+        }
+        if 126 < byte {
+            return false;
+        }
+        i += 1;
+    }
+    true
+}
+
+// A cipher under the key of the ring that a number names: the row's making, or 14 for a number over 3.
+pub fn keyed(ring: [[u8; 10]; 4], number: u8, value: &[u8]) -> Made
+    ensures { λ r. ⌜ r ≡ making ring number (now (value .entry)) ⌝ }
+{
+    if 3 < number {
+        return Made {
+            refusal: BAD_KEY_NUMBER,
+            registers: Registers {
+                a1: 0,
+                a0: 0,
+                b1: 0,
+                b0: 0,
+                c1: 0,
+                c0: 0,
+            },
+        };
+    }
+    let row = number as usize;
+    let key = ring[row];
+    made(&key, value)
+}
+
+// An array's length is known where it is lent as an array.
+fn made(key: &[u8; 10], value: &[u8]) -> Made
+    ensures { λ r. ⌜ r ≡ madeUnder (now (key .entry)) (now (value .entry)) ⌝ }
+{
+    Registers::new(key, value)
+}

@@ -1,0 +1,86 @@
+// Reads 40 bytes of keys and then a pack from standard input, and prints what the pack holds.
+ghost use Prim.Native.Nat.{_+_, _≤_};
+ghost use mathlib.Core.Path.{_≡_};
+ghost use lib.ListN.{length};
+use pack::Opened;
+
+const KEY_BYTES: usize = 40;
+
+// Ten bytes of the keys from `at`.
+fn key_at(keys: &[u8], at: usize) -> [u8; 10]
+    requires { ⌜ at + 10 ≤ length (now keys) ⌝ }
+{
+    [
+        keys[at],
+        keys[at + 1],
+        keys[at + 2],
+        keys[at + 3],
+        keys[at + 4],
+        keys[at + 5],
+        keys[at + 6],
+        keys[at + 7],
+        keys[at + 8],
+        keys[at + 9],
+    ]
+}
+
+fn ring_of(keys: &[u8]) -> [[u8; 10]; 4]
+    requires { ⌜ 40 ≤ length (now keys) ⌝ }
+{
+    [
+        key_at(keys, 0),
+        key_at(keys, 10),
+        key_at(keys, 20),
+        key_at(keys, 30),
+    ]
+}
+
+// Room for the samples of the longest pack.
+fn silence() -> [i16; 16384]
+    ensures { λ r. ⌜ 16384 ≡ length r ⌝ }
+{
+    [0; 16384]
+}
+
+fn print_line(word: &[u8], number: u64) {
+    io::write_all(1, word);
+    io::print_decimal(1, number);
+    io::write_all(1, b"\n");
+}
+
+fn print_pack(opened: Opened, file: &[u8]) {
+    let name_at = opened.name_at;
+    let name_length = opened.name_length;
+    io::write_all(1, b"name ");
+    io::write_all(1, octets::part(file, name_at, name_length));
+    io::write_all(1, b"\n");
+    print_line(b"key ", opened.key as u64);
+    print_line(b"samples ", opened.samples as u64);
+    print_line(b"loops ", opened.loops as u64);
+}
+
+fn show(input: &[u8])
+    requires { ⌜ 40 ≤ length (now input) ⌝ }
+{
+    let file = &input[KEY_BYTES..];
+    let mut samples = silence();
+    let opened = opener::open(file, ring_of(input), &mut samples);
+    let refusal = opened.refusal;
+    if refusal == 0 {
+        print_pack(opened, file);
+    } else {
+        print_line(b"refused ", refusal as u64);
+    }
+}
+
+// The buffer holds the keys and more than the longest pack. A longer input is refused by what stands in its front,
+// so what is not read changes nothing.
+fn main() {
+    let mut input = io::large_buffer();
+    let got = io::read_full(0, &mut input);
+    if got < KEY_BYTES {
+        print_line(b"refused ", 1);
+        return;
+    }
+    show(&input[..got]);
+}

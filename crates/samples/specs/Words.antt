@@ -1,0 +1,45 @@
+-- A sample as two bytes: a signed word of 16 bits, the most significant byte first.
+-- Assumes nothing.
+use Prim.Native.Nat.{ℕ, _-_, _*_, _/_}
+use mathlib.Core.Bool.{cond}
+use mathlib.Core.List.{List, [], _∷_, _++_}
+use lib.Dec.{leb, ltb}
+use lib.IntN.{ℤ, pos, negsuc}
+use lib.ListN.{length}
+use Rattle.octets.specs.Digits.{number, digits}
+use Rattle.octets.specs.Stream.{placed}
+
+-- the signed number that 16 bits stand for: from 32,768 on, it is less by 65,536
+unfoldable pub signed : ℕ → ℤ
+signed n = cond (ltb n 32768) (pos n) (negsuc (65535 - n))
+
+-- the 16 bits that stand for a signed number
+unfoldable pub unsigned : ℤ → ℕ
+unsigned (pos n) = n
+unsigned (negsuc n) = 65535 - n
+
+-- the sample that two bytes are
+abbrev pub wordOf : ℕ → ℕ → ℤ
+wordOf upper lower = signed (number 256 (upper ∷ lower ∷ []))
+
+-- the two bytes that a sample is
+abbrev pub bytesOf : ℤ → List ℕ
+bytesOf z = digits 256 2 (unsigned z)
+
+-- the samples that a run of bytes is, two bytes each
+unfoldable pub wordsOf : List ℕ → List ℤ
+wordsOf [] = []
+wordsOf (upper ∷ []) = []
+wordsOf (upper ∷ lower ∷ bytes) = wordOf upper lower ∷ wordsOf bytes
+
+-- the run of bytes that samples are
+unfoldable pub bytesOfAll : List ℤ → List ℕ
+bytesOfAll [] = []
+bytesOfAll (z ∷ zs) = bytesOf z ++ bytesOfAll zs
+
+-- what a lent run holds after bytes were read into it as samples, or samples written into it as bytes: unchanged where they have no room
+unfoldable pub wordsRead : List ℕ → List ℤ → List ℤ
+wordsRead bytes output = cond (leb (length bytes / 2) (length output)) (placed output 0 (wordsOf bytes)) output
+
+unfoldable pub wordsWritten : List ℤ → List ℕ → List ℕ
+wordsWritten samples output = cond (leb (2 * length samples) (length output)) (placed output 0 (bytesOfAll samples)) output
