@@ -1,14 +1,14 @@
 -- The laws of digits: what stands before is scaled by the base for each digit, so reading and writing are inverse.
 -- Assumes nothing.
 use mathlib.Core.Path.{_≡_, refl, sym, ap, ap₂, subst, _∙_}
-use Prim.Native.Nat.{ℕ, zero, suc, _+_, _-_, _*_, _/_, _%_, _^_, _<_}
+use Prim.Native.Nat.{ℕ, zero, suc, _+_, _-_, _*_, _/_, _%_, _^_, _<_, _≤_}
 use mathlib.Core.List.{List, [], _∷_, _++_}
-use native.Mathlib.Nat.{add-zero, zero-add, zero-mul, mul-one, add-mul, mul-assoc, mul-comm, pow-suc, pow-succ', pow-zero, mod-one, mod-lt, mod-eq-of-lt, mul-add-mod-self-right, one-le-pow}
+use native.Mathlib.Nat.{add-zero, zero-add, zero-mul, mul-one, add-mul, mul-assoc, mul-comm, pow-suc, pow-succ', pow-zero, mod-one, mod-lt, mod-eq-of-lt, mul-add-mod-self-right, one-le-pow, lt-of-lt-of-le, pow-le-pow-right}
 use native.Mathlib.Omega.{arith}
 use lib.Arith.{digits-lt, digits-div, digits-mod, mod-mul}
-use lib.ListN.{length, getD, take, drop}
+use lib.ListN.{length, getD, take, drop, length-take}
 use lib.Seq.{getD-drop}
-use Rattle.octets.specs.Digits.{number, numberAfter, digits, bitsOf}
+use Rattle.octets.specs.Digits.{number, numberAt, numberAfter, digits, bitsOf}
 
 -- every element is below the bound
 abbrev pub Below : ℕ → List ℕ → Type 0
@@ -136,3 +136,17 @@ bits-number before (x ∷ xs) b =
     (after-scaled 2 before (digits 2 8 x)
     ∙ ap₂ (λ (k v : ℕ). before * 2 ^ k + v) (length-digits 2 8 x) (number-digits 2 (omega arith) 8 x ∙ mod-eq-of-lt (b 0)))
     ∙ bits-number (before * 256 + x) xs (λ i. b (suc i))
+
+-- ---- numbers read from a run
+
+-- n bytes, or as many as are there, make a number below 256 ^ n
+pub field-below : (bytes : List ℕ) (at n : ℕ) → Below 256 bytes → number 256 (take n (drop at bytes)) < 256 ^ n
+field-below bytes at n b =
+    let some : List ℕ = take n (drop at bytes) in
+    let short : length some ≤ n = simp length-take (omega arith) in
+    lt-of-lt-of-le (number-below 256 some (below-take n (drop at bytes) (below-drop at bytes b))) (pow-le-pow-right {n = 256} (omega arith) short)
+
+-- eight of them fill no more than a word
+pub number-read : (bytes : List ℕ) (at n : ℕ) → Below 256 bytes → n ≤ 8 → numberAt bytes at n ≡ number 256 (take n (drop at bytes))
+number-read bytes at n b small =
+    mod-eq-of-lt (lt-of-lt-of-le (field-below bytes at n b) (pow-le-pow-right {n = 256} (omega arith) small))

@@ -50,3 +50,36 @@ moreBytes = 18
 -- output too short
 abbrev pub noRoom : ℕ
 noRoom = 19
+
+-- no session number left
+abbrev pub noSession : ℕ
+noSession = 20
+
+-- sound over 32,768 bytes
+abbrev pub longSound : ℕ
+longSound = 21
+
+-- no transfer under way
+abbrev pub noTransfer : ℕ
+noTransfer = 22
+
+-- lent sound not of the length begun; receiver's buffer shorter than the transfer, for a block
+abbrev pub wrongSound : ℕ
+wrongSound = 23
+
+-- not a frame for this end, or session 0, length over 32,768, or block count outside 1..64
+abbrev pub notAFrame : ℕ
+notAFrame = 24
+
+-- frame of another session (receiver: opening of a lower one)
+abbrev pub otherSession : ℕ
+otherSession = 25
+
+-- a count or block that can't be: Holds over k + 1, Holds over 0 while opening, Too long while sending, block number not below
+-- the blocks, byte count not that block's
+abbrev pub impossible : ℕ
+impossible = 26
+
+-- a link record out of rule
+abbrev pub outOfRule : ℕ
+outOfRule = 27

@@ -2,9 +2,11 @@
 -- Assumes nothing.
 use mathlib.Core.Path.{_≡_}
 use Prim.Native.Nat.{ℕ, _+_, _-_, _^_}
-use mathlib.Core.List.{List, [], _∷_}
+use mathlib.Core.List.{List, [], _∷_, map}
 use lib.IntN.{pos, negsuc}
 use lib.ListN.{replicate}
+use Rattle.frames.specs.Blocks.{blocks}
+use Rattle.frames.specs.Frames.{opening, bytes}
 use Rattle.samples.specs.Words.{wordOf}
 use Rattle.trivium.specs.Registers.{State, loaded, newA, newB, newC, outputBit}
 
@@ -45,4 +47,8 @@ table =
     ∷ row (outputBit (record { a = 0; b = 0; c = only 110 + only 109 }) ∷ newA (record { a = 0; b = 0; c = only 110 + only 109 }) ∷ []) (0 ∷ 1 ∷ [])
     -- zero key and value just loaded: output 1, all new bits 0
     ∷ row (seen (loaded tenZeros tenZeros)) (1 ∷ 0 ∷ 0 ∷ 0 ∷ [])
+    -- blocks: length 0 gives 0, 1 gives 1, 64 gives 1, 65 gives 2, 32,768 gives 512
+    ∷ row (map blocks (0 ∷ 1 ∷ 64 ∷ 65 ∷ 32768 ∷ [])) (0 ∷ 1 ∷ 1 ∷ 2 ∷ 512 ∷ [])
+    -- opening, session 1, length 65: 01 00 00 00 01 00 00 00 41
+    ∷ row (bytes (opening 1 65)) (1 ∷ 0 ∷ 0 ∷ 0 ∷ 1 ∷ 0 ∷ 0 ∷ 0 ∷ 65 ∷ [])
     ∷ []

@@ -1,9 +1,8 @@
 -- `trivium::Registers::encipher_some` meets its contract: bytes and keystream bits are numbers of the same length, and their exclusive or, written back, is the run enciphered.
 -- Assumes nothing.
-use mathlib.Core.Path.{_≡_, sym, ap, ap₂, subst, _∙_}
-use Prim.Native.Nat.{ℕ, _+_, _*_, _^_, _<_, _≤_}
+use mathlib.Core.Path.{_≡_, sym, ap, ap₂, _∙_}
+use Prim.Native.Nat.{ℕ, _+_, _*_, _≤_}
 use mathlib.Core.List.{List}
-use native.Mathlib.Nat.{mod-eq-of-lt, lt-of-lt-of-le, pow-le-pow-right}
 use native.Mathlib.Omega.{arith}
 use borrow.Author.Needs.{needs}
 use borrow.Author.Tests.{le-leb}
@@ -11,7 +10,7 @@ use lib.Bits.{bitXor}
 use lib.ListN.{length, take, drop, length-take, length-drop}
 use Rattle.octets.specs.Digits.{number, numberAt, digits}
 use Rattle.octets.specs.Stream.{enciphered, placed, numberPlaced}
-use Rattle.octets.proofs.Numbers.{Below, below-take, below-drop, number-below}
+use Rattle.octets.proofs.Numbers.{Below, below-take, below-drop, number-read}
 use Rattle.trivium.specs.Keystream.{bits, keystream}
 use Rattle.trivium.specs.Record.{state}
 use Rattle.trivium.specs.Registers.{State}
@@ -33,11 +32,7 @@ module _ (input output : List ℕ) (at n : ℕ) (s : State) (small : n ≤ 8) (h
 
   read : numberAt input at n ≡ number 256 some
   unfolding some
-  read =
-      mod-eq-of-lt
-      (lt-of-lt-of-le
-      (subst (λ (k : ℕ). number 256 some < 256 ^ k) long (number-below 256 some some-bytes))
-      (pow-le-pow-right {n = 256} (omega arith) small))
+  read = number-read input at n bytes small
 
   written : numberPlaced output at n (bitXor (numberAt input at n) (number 2 (bits (8 * n) s))) ≡ placed output at (enciphered (keystream s) (take n (drop at input)))
   unfolding some numberPlaced

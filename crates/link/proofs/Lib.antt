@@ -1,0 +1,12 @@
+pub mod Answers
+pub mod Begins
+pub mod Demand3
+pub mod Demand3Trivium
+pub mod Fronts
+pub mod Hears
+pub mod Invariant
+pub mod Moments
+pub mod Receives
+pub mod Round
+pub mod Rounds
+pub mod Sends
