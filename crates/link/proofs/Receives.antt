@@ -58,7 +58,7 @@ module _ {cipher : Cipher} {key pair : List ℕ} {room : ℕ} (w : World) (i : I
   abbrev Answer : ℕ → ℕ → List ℕ → Type 0
   Answer session count = Down (w .sound) (w .sender .session) session count room
 
-  -- the receiver goes on to this session, length and count, and answers so
+  -- the receiver goes on to the session, length and count given here, and answers so
   moves : (session long count : ℕ) (after : List ℕ) (f : Frame) → w .receiver .session ≤ session → session ≤ w .sender .session
       → (w .receiver .session ≡ session → w .receiver .count ≤ count) → (session ≡ w .sender .session → count ≤ lim (w .sender .length) (w .sender .phase))
       → Held (w .sound) room after session long count → Answer session count (bytes f) → length (bytes f) ≤ 7
