@@ -1,7 +1,6 @@
 pub mod Answers
 pub mod Begins
 pub mod Demand3
-pub mod Demand3Trivium
 pub mod Fronts
 pub mod Hears
 pub mod Invariant

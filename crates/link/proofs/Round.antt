@@ -14,7 +14,7 @@ use Rattle.frames.specs.Cipher.{Cipher}
 use Rattle.frames.specs.Frames.{Frame, opening, holds, tooLong, bytes}
 use Rattle.receiver.specs.Receiver.{receiving}
 use Rattle.sender.specs.Sender.{turned, agreed, knowing, blockFrame, sending, hearing}
-use Rattle.link.specs.World.{World, more, sentFrame, replyFrame, afterSend, afterReceive, afterHear, afterRound, Reach, sends, receives, hears}
+use Rattle.link.specs.World.{World, more, sentFrame, replyFrame, afterSend, afterReceive, afterHear, onceSent, frameSent, onceAnswered, answerGiven, afterRound, Reach, sends, receives, hears}
 use Rattle.sender.specs.declared.Phase.{Phase}
 use Rattle.sender.specs.declared.Phase.the-variants.{Idle, Opening, Sending, Done, Refused}
 use Rattle.sender.specs.declared.Reason.the-variants.{TooLong}
@@ -22,7 +22,7 @@ use Rattle.sender.specs.declared.Sender.{Sender}
 use Rattle.sender.specs.declared.SenderAnswer.{SenderAnswer}
 use Rattle.sender.specs.declared.Sent.{Sent}
 use Rattle.link.proofs.Answers.{Says, wrote, writes-opening, writes-block, answers-opening, answers-block, hears-first, hears-no, hears-next}
-use Rattle.link.specs.Course.{dueIn, Room, onceSent, frameSent, onceAnswered, answerGiven, Accepted, Well}
+use Rattle.link.specs.Course.{dueIn, Room, Accepted, Well}
 use Rattle.link.proofs.Invariant.{Inv, known-in}
 use Rattle.link.proofs.Moments.{holds-at}
 use Rattle.frames.proofs.Tests.{by-cond}

@@ -1,17 +1,16 @@
--- Definitions that demand 3's theorems name: the answers that can be, the frame that is due, room for it and for any answer, a round with no call refused, rounds in a row, and how they end.
+-- What demand 3's statement names: the answers that can be, the frame that is due, room for it and for any answer, a round with no call refused, rounds in a row, and how they end.
 -- Assumes nothing.
 use mathlib.Core.Path.{_≡_}
 use mathlib.Core.Logic.{_≢_}
 use Prim.Native.Nat.{ℕ, zero, suc, _≤_, _<_}
 use mathlib.Core.List.{List, []}
 use lib.ListN.{length}
-use Rattle.octets.specs.Refusals.{accepted}
 use Rattle.frames.specs.Cipher.{Cipher}
 use Rattle.frames.specs.Frames.{opening, bytes}
 use Rattle.receiver.specs.Receiver.{receiving}
-use Rattle.octets.specs.Refusals.{notAFrame, impossible, outOfRule}
+use Rattle.octets.specs.Refusals.{accepted, notAFrame, impossible, outOfRule}
 use Rattle.sender.specs.Sender.{blockFrame, sending, hearing}
-use Rattle.link.specs.World.{World, sentFrame, replyFrame, afterSend, afterReceive, afterRound, Reach}
+use Rattle.link.specs.World.{World, frameSent, onceSent, answerGiven, onceAnswered, afterRound, Reach}
 use Rattle.sender.specs.declared.Phase.{Phase}
 use Rattle.sender.specs.declared.Phase.the-variants.{Idle, Opening, Sending, Done, Refused}
 use Rattle.sender.specs.declared.Reason.the-variants.{TooLong}
@@ -37,24 +36,11 @@ module _ (cipher : Cipher) where
     pub forFrame : length (dueIn (w .sender) (w .sound (w .sender .session)) (w .sender .phase)) ≤ length frame
     pub forAnswer : 7 ≤ length reply
 
-  -- inside a round: the frame sent and the moment after it, the answer and the moment after it
-  abbrev pub frameSent : List ℕ → World → List ℕ
-  frameSent frame w = sentFrame (sending cipher (w .sender) (w .sound (w .sender .session)) frame)
-
-  abbrev pub onceSent : List ℕ → World → World
-  onceSent frame w = afterSend cipher (w .sound (w .sender .session)) frame w
-
-  abbrev pub answerGiven : List ℕ → List ℕ → World → List ℕ
-  answerGiven frame reply w = replyFrame (receiving (onceSent frame w .receiver) (onceSent frame w .buffer) reply cipher (frameSent frame w))
-
-  abbrev pub onceAnswered : List ℕ → List ℕ → World → World
-  onceAnswered frame reply w = afterReceive cipher (frameSent frame w) reply (onceSent frame w)
-
   -- none of a round's three calls is refused
   pub record Accepted (w : World) (frame reply : List ℕ) : Type 0 where
     pub sent : sending cipher (w .sender) (w .sound (w .sender .session)) frame .answer .refusal ≡ accepted
-    pub received : receiving (onceSent frame w .receiver) (onceSent frame w .buffer) reply cipher (frameSent frame w) .answer .refusal ≡ accepted
-    pub heard : hearing (onceAnswered frame reply w .sender) (answerGiven frame reply w) .refusal ≡ accepted
+    pub received : receiving (onceSent cipher frame w .receiver) (onceSent cipher frame w .buffer) reply cipher (frameSent cipher frame w) .answer .refusal ≡ accepted
+    pub heard : hearing (onceAnswered cipher frame reply w .sender) (answerGiven cipher frame reply w) .refusal ≡ accepted
 
   -- undisturbed rounds in a row, each with the rooms lent to it
   unfoldable pub rounds : (frame reply : ℕ → List ℕ) → ℕ → World → World
@@ -65,8 +51,8 @@ module _ (cipher : Cipher) where
     -- a round goes well: its calls are accepted, and every moment of it can come about
     pub record Well (w : World) (frame reply : List ℕ) : Type 0 where
       pub calls : Accepted w frame reply
-      pub first : Reach cipher key pair buffer (onceSent frame w)
-      pub second : Reach cipher key pair buffer (onceAnswered frame reply w)
+      pub first : Reach cipher key pair buffer (onceSent cipher frame w)
+      pub second : Reach cipher key pair buffer (onceAnswered cipher frame reply w)
       pub third : Reach cipher key pair buffer (afterRound cipher frame reply w)
 
 -- A transfer under way in w is over in v: done, or refused if and only if the sound exceeds the receiver's buffer.

@@ -131,10 +131,19 @@ UnderWay s n = Pending (s .phase)
 
 -- An undisturbed round, with rooms lent for the frame and for the answer: the sender sends once, the frame is heard, the answer is heard.
 module _ (cipher : Cipher) where
+  -- the frame sent, and the moment after it
+  abbrev pub frameSent : List ℕ → World → List ℕ
+  frameSent frame w = sentFrame (sending cipher (w .sender) (w .sound (w .sender .session)) frame)
+
+  abbrev pub onceSent : List ℕ → World → World
+  onceSent frame w = afterSend cipher (w .sound (w .sender .session)) frame w
+
+  -- the answer given, and the moment after it
+  abbrev pub answerGiven : List ℕ → List ℕ → World → List ℕ
+  answerGiven frame reply w = replyFrame (receiving (onceSent frame w .receiver) (onceSent frame w .buffer) reply cipher (frameSent frame w))
+
+  abbrev pub onceAnswered : List ℕ → List ℕ → World → World
+  onceAnswered frame reply w = afterReceive cipher (frameSent frame w) reply (onceSent frame w)
+
   unfoldable pub afterRound : List ℕ → List ℕ → World → World
-  afterRound frame reply w =
-      let sound = w .sound (w .sender .session) in
-      let up = sentFrame (sending cipher (w .sender) sound frame) in
-      let w₁ = afterSend cipher sound frame w in
-      let down = replyFrame (receiving (w₁ .receiver) (w₁ .buffer) reply cipher up) in
-      afterHear down (afterReceive cipher up reply w₁)
+  afterRound frame reply w = afterHear (answerGiven frame reply w) (onceAnswered frame reply w)

@@ -9,7 +9,7 @@ accepted = 0
 abbrev pub badKey : ℕ
 badKey = 1
 
--- initial value not 10 bytes
+-- initial value not 10 bytes, or pair name not 6
 abbrev pub badValue : ℕ
 badValue = 2
 
@@ -47,7 +47,7 @@ badLoop = 17
 abbrev pub moreBytes : ℕ
 moreBytes = 18
 
--- output too short
+-- output too short (link receiver: under 7 bytes)
 abbrev pub noRoom : ℕ
 noRoom = 19
 
