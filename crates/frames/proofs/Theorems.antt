@@ -4,12 +4,13 @@ use mathlib.Core.Path.{_≡_}
 use Prim.Native.Nat.{ℕ}
 use mathlib.Core.List.{List}
 use Rattle.octets.specs.Outcome.{only-one}
+use Rattle.octets.specs.Stream.{put}
 use Rattle.frames.specs.Blocks.{blocks, size}
 use Rattle.frames.specs.Cipher.{trivium, covered}
 use Rattle.frames.specs.Frames.{Frame, heard}
 use Rattle.frames.specs.Naming.{named}
 use Rattle.frames.specs.Reading.{told}
-use Rattle.frames.specs.Writing.{put, written}
+use Rattle.frames.specs.Writing.{written}
 use Rattle.frames.specs.declared.Names.{Names}
 use Rattle.frames.specs.declared.Told.{Told}
 

@@ -12,9 +12,9 @@ use lib.Seq.{take-all, drop-cons, drop-length, drop-drop}
 use Rattle.octets.specs.Digits.{digits}
 use Rattle.octets.specs.Stream.{placed, numberPlaced}
 use Rattle.octets.proofs.Numbers.{Below, length-digits}
-use Rattle.octets.proofs.Streams.{placed-append}
+use Rattle.octets.proofs.Streams.{put-placed, put-none, placed-append}
 use Rattle.frames.specs.Frames.{Frame, opening, block, holds, tooLong, four, bytes}
-use Rattle.frames.specs.Writing.{put, written}
+use Rattle.frames.specs.Writing.{written}
 
 pub length-placed : (d : List ℕ) (at : ℕ) (run : List ℕ) → at + length run ≤ length d → length (placed d at run) ≡ length d
 unfolding placed
@@ -70,14 +70,6 @@ part-placed d at run after room e =
     ∙ sym (append-assoc (take at d) run (drop (at + length run) d))
 
 -- ---- with room and without
-
-pub put-placed : (d : List ℕ) (at : ℕ) (run : List ℕ) → at + length run ≤ length d → put d at run ≡ placed d at run
-unfolding put
-put-placed d at run room = rw (le-leb (at + length run) (length d) room)
-
-pub put-none : (d : List ℕ) (at : ℕ) (run : List ℕ) → length d < at + length run → d ≡ put d at run
-unfolding put
-put-none d at run short = rw (lt-leb (at + length run) (length d) short)
 
 pub written-placed : (d : List ℕ) (f : Frame) → length (bytes f) ≤ 72 → length (bytes f) ≤ length d → written d f ≡ placed d 0 (bytes f)
 unfolding written

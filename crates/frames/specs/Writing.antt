@@ -1,16 +1,12 @@
 -- What is written to a lent buffer where it has room; otherwise nothing changes.
 -- Assumes nothing.
-use Prim.Native.Nat.{ℕ, _+_}
+use Prim.Native.Nat.{ℕ}
 use mathlib.Core.Bool.{cond}
 use mathlib.Core.List.{List}
 use lib.Dec.{leb}
 use lib.ListN.{length}
-use Rattle.octets.specs.Stream.{placed}
+use Rattle.octets.specs.Stream.{put}
 use Rattle.frames.specs.Frames.{Frame, bytes}
-
--- a run of bytes from index `at`
-unfoldable pub put : List ℕ → ℕ → List ℕ → List ℕ
-put buffer at run = cond (leb (at + length run) (length buffer)) (placed buffer at run) buffer
 
 -- a block with 64 bytes is the longest frame
 abbrev pub longestFrame : ℕ

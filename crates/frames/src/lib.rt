@@ -3,7 +3,7 @@ ghost use mathlib.Core.Path.{_≡_};
 ghost use mathlib.Core.List.{_∷_};
 ghost use Prim.Native.Nat.{_+_, _<_, _≤_};
 ghost use lib.ListN.{length};
-ghost use Rattle.octets.specs.Stream.{from, placed};
+ghost use Rattle.octets.specs.Stream.{from, placed, put};
 ghost use Rattle.trivium.specs.Keystream.{keystream};
 ghost use Rattle.trivium.specs.Record.{state};
 ghost use Rattle.frames.specs.Blocks.{blocks, size};
@@ -11,7 +11,7 @@ ghost use Rattle.frames.specs.Cipher.{trivium, initial, covered};
 ghost use Rattle.frames.specs.Frames.{four, opening, block, holds, tooLong, field, heard};
 ghost use Rattle.frames.specs.Naming.{noNames, named};
 ghost use Rattle.frames.specs.Reading.{told};
-ghost use Rattle.frames.specs.Writing.{put, written};
+ghost use Rattle.frames.specs.Writing.{written};
 
 // What a message says, but for a block's bytes, which begin at its byte 8.
 pub enum Told {

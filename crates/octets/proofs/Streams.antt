@@ -6,12 +6,13 @@ use mathlib.Core.List.{List, [], _∷_, _++_, append-assoc, append-nil}
 use native.Mathlib.Nat.{zero-add, add-assoc, pow-suc}
 use native.Mathlib.Numerals.{one-add}
 use native.Mathlib.Omega.{arith}
+use borrow.Author.Tests.{le-leb, lt-leb}
 use lib.Bits.{bitXor, xor-shr, xor-mod}
 use lib.ListN.{length, getD, take, drop, length-append, length-take, length-drop, drop-of-length-le}
 use lib.Pow.{pow-add}
 use lib.Seq.{take-add, take-at, drop-at, drop-drop, length-take-le, paste-zero, take-all}
 use Rattle.octets.specs.Digits.{number, digits}
-use Rattle.octets.specs.Stream.{Keystream, from, enciphered, placed}
+use Rattle.octets.specs.Stream.{Keystream, from, enciphered, placed, put}
 use Rattle.octets.proofs.Bits.{xor-twice}
 use Rattle.octets.proofs.Numbers.{Below, digits-number}
 
@@ -86,6 +87,15 @@ word-enciphered xs z b =
     ∙ ap (λ (l : List ℕ). enciphered (byteOfWord (length xs) z) l) (digits-number 256 (omega arith) xs b)
 
 -- ---- runs placed in a buffer
+
+-- with room and without
+pub put-placed : (d : List ℕ) (at : ℕ) (run : List ℕ) → at + length run ≤ length d → put d at run ≡ placed d at run
+unfolding put
+put-placed d at run room = rw (le-leb (at + length run) (length d) room)
+
+pub put-none : (d : List ℕ) (at : ℕ) (run : List ℕ) → length d < at + length run → d ≡ put d at run
+unfolding put
+put-none d at run short = rw (lt-leb (at + length run) (length d) short)
 
 module _ {A : Type 0} where
   pub placed-nothing : (buffer : List A) (at : ℕ) → placed buffer at [] ≡ buffer

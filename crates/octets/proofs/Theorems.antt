@@ -6,10 +6,13 @@ use mathlib.Core.List.{List}
 use lib.ListN.{take, drop}
 use Rattle.octets.specs.Digits.{numberAt}
 use Rattle.octets.specs.Outcome.{only-one}
-use Rattle.octets.specs.Stream.{numberPlaced}
+use Rattle.octets.specs.Stream.{put, numberPlaced}
 
 pub number-at-only : (bytes : List ℕ) (at n one other : ℕ) → one ≡ numberAt bytes at n → other ≡ numberAt bytes at n → one ≡ other
 number-at-only bytes at n one other = only-one
+
+pub copy-only : (buffer : List ℕ) (at : ℕ) (run one other : List ℕ) → one ≡ put buffer at run → other ≡ put buffer at run → one ≡ other
+copy-only buffer at run one other = only-one
 
 pub write-number-only : (buffer : List ℕ) (at n value : ℕ) (one other : List ℕ) → one ≡ numberPlaced buffer at n value → other ≡ numberPlaced buffer at n value → one ≡ other
 write-number-only buffer at n value one other = only-one

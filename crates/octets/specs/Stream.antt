@@ -25,6 +25,10 @@ enciphered k (x ∷ xs) = bitXor x (k 0) ∷ enciphered (from 1 k) xs
 unfoldable pub placed : {A : Type 0} → List A → ℕ → List A → List A
 placed buffer at run = take at buffer ++ run ++ drop (at + length run) buffer
 
+-- a run of bytes from index `at` where it has room there; otherwise nothing changes
+unfoldable pub put : List ℕ → ℕ → List ℕ → List ℕ
+put buffer at run = cond (leb (at + length run) (length buffer)) (placed buffer at run) buffer
+
 -- the buffer with the last n bytes of a number placed from `at`; unchanged where there are more than eight or no room for them
 unfoldable pub numberPlaced : List ℕ → ℕ → ℕ → ℕ → List ℕ
 numberPlaced buffer at n value = cond (leb n 8) (cond (leb (at + n) (length buffer)) (placed buffer at (digits 256 n value)) buffer) buffer

@@ -2,7 +2,7 @@ ghost use mathlib.Core.Path.{_≡_};
 ghost use Prim.Native.Nat.{_-_, min};
 ghost use lib.ListN.{take, drop};
 ghost use Rattle.octets.specs.Digits.{numberAt};
-ghost use Rattle.octets.specs.Stream.{numberPlaced};
+ghost use Rattle.octets.specs.Stream.{put, numberPlaced};
 
 // How many of n elements from `at` a run of `len` has.
 fn there(len: usize, at: usize, n: usize) -> usize
@@ -38,6 +38,23 @@ pub fn number_at(s: &[u8], at: usize, n: usize) -> u64
         i += 1;
     }
     value
+}
+
+// Copies a run to the elements from `at`, if it has room there.
+pub fn copy(d: &mut [u8], at: usize, run: &[u8])
+    ensures { λ _. ⌜ now (d .exit) ≡ put (now (d .entry)) at (now (run .entry)) ⌝ }
+{
+    if d.len() < at {
+        return;
+    }
+    if d.len() - at < run.len() {
+        return;
+    }
+    let mut i = 0;
+    while i < run.len() {
+        d[at + i] = run[i];
+        i += 1;
+    }
 }
 
 // Writes the last n bytes of a number from `at`, the most significant first, if they have room there.

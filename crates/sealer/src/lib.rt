@@ -105,25 +105,13 @@ fn seal_fault(name: &[u8], key: u8, value: &[u8], samples: &[i16], loops: &[u32]
     ACCEPTED
 }
 
-// Copies a run to its place.
-fn copy_to(output: &mut [u8], at: usize, run: &[u8])
-    requires { ⌜ at + length (now run) ≤ length (now output) ⌝ }
-    ensures { λ _. ⌜ now (output .exit) ≡ placed (now (output .entry)) at (now (run .entry)) ⌝ }
-{
-    let mut i = 0;
-    while i < run.len() {
-        output[at + i] = run[i];
-        i += 1;
-    }
-}
-
 // The name section, at the front.
 fn write_name(output: &mut [u8], name: &[u8])
     requires { ⌜ (length (now name) ≤ 32) × (1 + length (now name) ≤ length (now output)) ⌝ }
     ensures { λ _. ⌜ now (output .exit) ≡ placed (now (output .entry)) 0 (length (now (name .entry)) ∷ now (name .entry)) ⌝ }
 {
     output[0] = (name.len() % 256) as u8;
-    copy_to(output, 1, name);
+    octets::copy(output, 1, name);
 }
 
 // The key section, at its place.
@@ -133,7 +121,7 @@ fn write_key(output: &mut [u8], at: usize, key: u8, value: &[u8])
 {
     output[at] = 11;
     output[at + 1] = key;
-    copy_to(output, at + 2, value);
+    octets::copy(output, at + 2, value);
 }
 
 // So many samples from `from`, as bytes and enciphered, to their place.

@@ -8,11 +8,12 @@ use borrow.Author.Needs.{needs}
 use lib.ListN.{length, take, drop, length-take, length-drop}
 use Rattle.octets.specs.Outcome.{Outcome}
 use Rattle.octets.specs.Stream.{Keystream, enciphered, placed}
+use Rattle.octets.proofs.Streams.{put-placed, put-none}
 use Rattle.trivium.specs.declared.Enciphered.{Enciphered}
 use Rattle.trivium.proofs.Theorems.{enciphers}
 use Rattle.frames.specs.Cipher.{trivium, covered}
 use Rattle.frames.proofs.Ciphering.{length-covered}
-use Rattle.frames.proofs.Writing.{part-placed, put-placed, put-none}
+use Rattle.frames.proofs.Writing.{part-placed}
 use Rattle.frames.proofs.cover.Statement.{statement}
 use Rattle.frames.proofs.cover.Tie as tie
 

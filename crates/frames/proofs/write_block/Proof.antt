@@ -8,10 +8,11 @@ use borrow.Author.Needs.{needs}
 use lib.ListN.{length, length-append}
 use Rattle.octets.specs.Stream.{placed, numberPlaced}
 use Rattle.octets.proofs.Numbers.{length-digits}
+use Rattle.octets.proofs.Streams.{put-placed}
 use Rattle.frames.specs.Cipher.{trivium, covered}
 use Rattle.frames.specs.Frames.{four, two, block, bytes}
 use Rattle.frames.proofs.Ciphering.{length-covered}
-use Rattle.frames.proofs.Writing.{one-byte, number-behind, run-behind, put-placed, written-placed, written-none, written-over, length-block}
+use Rattle.frames.proofs.Writing.{one-byte, number-behind, run-behind, written-placed, written-none, written-over, length-block}
 use Rattle.frames.proofs.write_block.Statement.{statement}
 use Rattle.frames.proofs.write_block.Tie as tie
 

@@ -6,11 +6,12 @@ use mathlib.Core.List.{List}
 use native.Mathlib.Omega.{arith}
 use borrow.Author.Needs.{needs}
 use Rattle.octets.specs.Stream.{placed}
+use Rattle.octets.proofs.Streams.{put-placed}
 use Rattle.frames.specs.Blocks.{place}
 use Rattle.frames.specs.Cipher.{trivium, covered}
 use Rattle.frames.specs.Frames.{holds}
 use Rattle.frames.proofs.Ciphering.{length-covered}
-use Rattle.frames.proofs.Writing.{put-placed, length-holds}
+use Rattle.frames.proofs.Writing.{length-holds}
 use Rattle.receiver.specs.Receiver.{taking, received}
 use Rattle.receiver.specs.declared.Receiver.{Receiver}
 use Rattle.receiver.specs.declared.ReceiverAnswer.{ReceiverAnswer}
