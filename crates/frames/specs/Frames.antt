@@ -5,8 +5,8 @@ use Prim.Native.Nat.{ℕ, _+_, _^_, _<_}
 use mathlib.Core.Bool.{Bool, true, cond, _&&_}
 use mathlib.Core.List.{List, _∷_, _++_}
 use lib.Dec.{leb, eqb}
-use lib.ListN.{length, take, drop}
-use Rattle.octets.specs.Digits.{number, digits}
+use lib.ListN.{length, drop}
+use Rattle.octets.specs.Digits.{number, digits, slice}
 use Rattle.frames.specs.Blocks.{longest}
 
 pub data Frame : Type 0 where
@@ -51,7 +51,7 @@ pub data Heard : Type 0 where
 
 -- the number in n bytes from `at`
 abbrev pub field : List ℕ → ℕ → ℕ → ℕ
-field message at n = number 256 (take n (drop at message))
+field message at n = number 256 (slice message at n)
 
 -- whether the message begins with this byte and has exactly this length
 abbrev pub shape : List ℕ → ℕ → ℕ → Bool

@@ -8,7 +8,7 @@ use native.Mathlib.Omega.{arith}
 use lib.Arith.{digits-lt, digits-div, digits-mod, mod-mul}
 use lib.ListN.{length, getD, take, drop, length-take}
 use lib.Seq.{getD-drop}
-use Rattle.octets.specs.Digits.{number, numberAt, numberAfter, digits, bitsOf}
+use Rattle.octets.specs.Digits.{number, slice, numberAt, numberAfter, digits, bitsOf}
 
 -- every element is below the bound
 abbrev pub Below : ℕ → List ℕ → Type 0
@@ -25,6 +25,9 @@ below-take (suc n) (x ∷ xs) b (suc i) = below-take n xs (λ k. b (suc k)) i
 
 pub below-drop : {bound : ℕ} (n : ℕ) (xs : List ℕ) → Below bound xs → Below bound (drop n xs)
 below-drop {bound} n xs b i = subst (λ (x : ℕ). x < bound) (sym (getD-drop n xs i 0)) (b (n + i))
+
+pub below-slice : {bound : ℕ} (xs : List ℕ) (at n : ℕ) → Below bound xs → Below bound (slice xs at n)
+below-slice xs at n b = below-take n (drop at xs) (below-drop at xs b)
 
 pub after-append : (base before : ℕ) (xs ys : List ℕ) → numberAfter base before (xs ++ ys) ≡ numberAfter base (numberAfter base before xs) ys
 unfolding numberAfter
@@ -140,13 +143,13 @@ bits-number before (x ∷ xs) b =
 -- ---- numbers read from a run
 
 -- n bytes, or as many as are there, make a number below 256 ^ n
-pub field-below : (bytes : List ℕ) (at n : ℕ) → Below 256 bytes → number 256 (take n (drop at bytes)) < 256 ^ n
+pub field-below : (bytes : List ℕ) (at n : ℕ) → Below 256 bytes → number 256 (slice bytes at n) < 256 ^ n
 field-below bytes at n b =
-    let some : List ℕ = take n (drop at bytes) in
+    let some : List ℕ = slice bytes at n in
     let short : length some ≤ n = simp length-take (omega arith) in
-    lt-of-lt-of-le (number-below 256 some (below-take n (drop at bytes) (below-drop at bytes b))) (pow-le-pow-right {n = 256} (omega arith) short)
+    lt-of-lt-of-le (number-below 256 some (below-slice bytes at n b)) (pow-le-pow-right {n = 256} (omega arith) short)
 
 -- eight of them fill no more than a word
-pub number-read : (bytes : List ℕ) (at n : ℕ) → Below 256 bytes → n ≤ 8 → numberAt bytes at n ≡ number 256 (take n (drop at bytes))
+pub number-read : (bytes : List ℕ) (at n : ℕ) → Below 256 bytes → n ≤ 8 → numberAt bytes at n ≡ number 256 (slice bytes at n)
 number-read bytes at n b small =
     mod-eq-of-lt (lt-of-lt-of-le (field-below bytes at n b) (pow-le-pow-right {n = 256} (omega arith) small))

@@ -3,8 +3,7 @@
 use mathlib.Core.Path.{_≡_}
 use Prim.Native.Nat.{ℕ}
 use mathlib.Core.List.{List}
-use lib.ListN.{take, drop}
-use Rattle.octets.specs.Digits.{numberAt}
+use Rattle.octets.specs.Digits.{slice, numberAt}
 use Rattle.octets.specs.Outcome.{only-one}
 use Rattle.octets.specs.Stream.{put, numberPlaced}
 
@@ -17,5 +16,5 @@ copy-only buffer at run one other = only-one
 pub write-number-only : (buffer : List ℕ) (at n value : ℕ) (one other : List ℕ) → one ≡ numberPlaced buffer at n value → other ≡ numberPlaced buffer at n value → one ≡ other
 write-number-only buffer at n value one other = only-one
 
-pub part-only : (bytes : List ℕ) (at n : ℕ) (one other : List ℕ) → one ≡ take n (drop at bytes) → other ≡ take n (drop at bytes) → one ≡ other
+pub part-only : (bytes : List ℕ) (at n : ℕ) (one other : List ℕ) → one ≡ slice bytes at n → other ≡ slice bytes at n → one ≡ other
 part-only bytes at n one other = only-one

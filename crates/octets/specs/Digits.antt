@@ -27,6 +27,10 @@ bitsOf (x ∷ xs) = digits 2 8 x ++ bitsOf xs
 abbrev pub byteOf : List ℕ → ℕ
 byteOf bits = number 2 bits
 
+-- the n elements from `at`, or as many as are there
+abbrev pub slice : List ℕ → ℕ → ℕ → List ℕ
+slice run at n = take n (drop at run)
+
 -- the number that n bytes from `at` make, or as many as are there, in a word of 64 bits
 abbrev pub numberAt : List ℕ → ℕ → ℕ → ℕ
-numberAt bytes at n = number 256 (take n (drop at bytes)) % 2 ^ 64
+numberAt bytes at n = number 256 (slice bytes at n) % 2 ^ 64

@@ -1,7 +1,6 @@
 ghost use mathlib.Core.Path.{_≡_};
 ghost use Prim.Native.Nat.{_-_, min};
-ghost use lib.ListN.{take, drop};
-ghost use Rattle.octets.specs.Digits.{numberAt};
+ghost use Rattle.octets.specs.Digits.{slice, numberAt};
 ghost use Rattle.octets.specs.Stream.{put, numberPlaced};
 
 // How many of n elements from `at` a run of `len` has.
@@ -16,7 +15,7 @@ fn there(len: usize, at: usize, n: usize) -> usize
 
 // The n elements from `at`, or as many of them as are there.
 pub fn part(s: &[u8], at: usize, n: usize) -> &[u8]
-    ensures { λ r. ⌜ now r ≡ take n (drop at (now (s .entry))) ⌝ }
+    ensures { λ r. ⌜ now r ≡ slice (now (s .entry)) at n ⌝ }
 {
     let count = there(s.len(), at, n);
     if count == 0 {

@@ -7,29 +7,29 @@ use native.Mathlib.Omega.{arith}
 use lib.IntN.{ℤ}
 use lib.ListN.{length, drop, length-drop}
 use lib.Seq.{take-all}
-use Rattle.octets.proofs.Numbers.{Below, below-drop}
+use Rattle.octets.proofs.Numbers.{Below, below-drop, below-slice}
 use Rattle.octets.proofs.Streams.{length-enciphered, enciphered-twice}
-use Rattle.octets.specs.Digits.{number, digits}
+use Rattle.octets.specs.Digits.{number, digits, slice}
 use Rattle.octets.specs.Stream.{Keystream, enciphered}
 use Rattle.pack.specs.Faults.{first, fileFaults}
 use Rattle.pack.specs.Layout.{Parts, Within, loopsGood, fours, row, layout, nameSection, keySection, sampleSection, loopSection}
-use Rattle.pack.specs.Places.{byteAt, bytesAt, foursAt, nameCount, keyPlace, keyNumber, valuePlace, samplePlace, sampleCount, bodyPlace, loopPlace, loopCount, partsOf}
+use Rattle.pack.specs.Places.{byteAt, foursAt, nameCount, keyPlace, keyNumber, valuePlace, samplePlace, sampleCount, bodyPlace, loopPlace, loopCount, partsOf}
 use Rattle.pack.specs.Suite.{Suite}
 use Rattle.pack.proofs.Order.{NamePassed, KeyPassed, SamplePassed, LoopPassed, FilePassed, file-passed}
-use Rattle.pack.proofs.Runs.{OfBytes, cut-run, cut-byte, length-run, below-run, four-digits, length-foursAt, fours-read, below-enciphered, words-fit}
+use Rattle.pack.proofs.Runs.{OfBytes, cut-run, cut-byte, length-run, four-digits, length-foursAt, fours-read, below-enciphered, words-fit}
 use Rattle.samples.proofs.Laws.{length-words, bytes-of-words}
 use Rattle.samples.specs.Words.{wordsOf, bytesOfAll}
 
 -- ---- each section, written again in front of what follows it, is the file from its place on
 
 name-again : (file : List ℕ) → NamePassed file
-    → (length (bytesAt file 1 (nameCount file)) ∷ bytesAt file 1 (nameCount file)) ++ drop (1 + nameCount file) file ≡ file
+    → (length (slice file 1 (nameCount file)) ∷ slice file 1 (nameCount file)) ++ drop (1 + nameCount file) file ≡ file
 name-again file p =
     ap₂ (λ (n : ℕ) (l : List ℕ). n ∷ l) (length-run file 1 (nameCount file) (p .body)) (cut-run file 1 (nameCount file))
     ∙ cut-byte file 0 (p .there)
 
 key-again : (suite : Suite) (file : List ℕ) (at : ℕ) → KeyPassed suite file at
-    → (suc (suite .valueBytes) ∷ byteAt file (at + 1) ∷ bytesAt file (at + 2) (suite .valueBytes)) ++ drop (at + 2 + suite .valueBytes) file
+    → (suc (suite .valueBytes) ∷ byteAt file (at + 1) ∷ slice file (at + 2) (suite .valueBytes)) ++ drop (at + 2 + suite .valueBytes) file
     ≡ drop at file
 key-again suite file at p =
     ap₂ (λ (n : ℕ) (l : List ℕ). n ∷ byteAt file (at + 1) ∷ l) (sym (p .count)) (cut-run file (at + 2) (suite .valueBytes))
@@ -57,22 +57,22 @@ body-again n k body h e b =
 
 -- the samples of a section at `at`
 abbrev samplesIn : Keystream → List ℕ → ℕ → List ℤ
-samplesIn k file at = wordsOf (enciphered k (bytesAt file (at + 4) (2 * number 256 (bytesAt file at 4))))
+samplesIn k file at = wordsOf (enciphered k (slice file (at + 4) (2 * number 256 (slice file at 4))))
 
 sample-again : (file : List ℕ) (at : ℕ) (k : Keystream) → ((i : ℕ) → k i < 256) → Below 256 file → SamplePassed file at
-    → (digits 256 4 (length (samplesIn k file at)) ++ enciphered k (bytesOfAll (samplesIn k file at))) ++ drop (at + 4 + 2 * number 256 (bytesAt file at 4)) file
+    → (digits 256 4 (length (samplesIn k file at)) ++ enciphered k (bytesOfAll (samplesIn k file at))) ++ drop (at + 4 + 2 * number 256 (slice file at 4)) file
     ≡ drop at file
 sample-again file at k h b p =
-    let n : ℕ = number 256 (bytesAt file at 4) in
-    let body : List ℕ = bytesAt file (at + 4) (2 * n) in
+    let n : ℕ = number 256 (slice file at 4) in
+    let body : List ℕ = slice file (at + 4) (2 * n) in
     let rest : List ℕ = drop (at + 4 + 2 * n) file in
     let size : length body ≡ 2 * n = length-run file (at + 4) (2 * n) (p .body) in
-    let front : digits 256 4 (length (samplesIn k file at)) ≡ bytesAt file at 4 =
+    let front : digits 256 4 (length (samplesIn k file at)) ≡ slice file at 4 =
     ap (digits 256 4) (counted n k body size)
     ∙ four-digits (drop at file) (simp length-drop (omega (arith, p .there))) (below-drop at file b) in
-    ap₂ (λ (xs ys : List ℕ). (xs ++ ys) ++ rest) front (body-again n k body h size (below-run file (at + 4) (2 * n) b))
-    ∙ append-assoc (bytesAt file at 4) body rest
-    ∙ ap (λ (l : List ℕ). bytesAt file at 4 ++ l) (cut-run file (at + 4) (2 * n))
+    ap₂ (λ (xs ys : List ℕ). (xs ++ ys) ++ rest) front (body-again n k body h size (below-slice file (at + 4) (2 * n) b))
+    ∙ append-assoc (slice file at 4) body rest
+    ∙ ap (λ (l : List ℕ). slice file at 4 ++ l) (cut-run file (at + 4) (2 * n))
     ∙ cut-run file at 4
 
 -- the loops of a section at `at`
@@ -97,14 +97,14 @@ loop-again file at samples b p =
 
 -- the keystream of the file's key and initial value
 abbrev streamOf : Suite → List (List ℕ) → List ℕ → Keystream
-streamOf suite ring file = suite .stream (row ring (keyNumber file)) (bytesAt file (valuePlace file) (suite .valueBytes))
+streamOf suite ring file = suite .stream (row ring (keyNumber file)) (slice file (valuePlace file) (suite .valueBytes))
 
 -- as many samples are read as are counted
 pub samples-counted : (suite : Suite) (ring : List (List ℕ)) (file : List ℕ) → SamplePassed file (samplePlace suite file)
     → length (partsOf suite ring file .samples) ≡ sampleCount suite file
 unfolding partsOf
 samples-counted suite ring file p =
-    counted (sampleCount suite file) (streamOf suite ring file) (bytesAt file (bodyPlace suite file) (2 * sampleCount suite file))
+    counted (sampleCount suite file) (streamOf suite ring file) (slice file (bodyPlace suite file) (2 * sampleCount suite file))
     (length-run file (bodyPlace suite file) (2 * sampleCount suite file) (p .body))
 
 laid-again : (suite : Suite) (ring : List (List ℕ)) → OfBytes suite → (file : List ℕ) → Below 256 file → FilePassed suite file
@@ -129,9 +129,9 @@ parts-within suite ring file b p =
       nameBytes = p .name .good;
       keyNumber = p .key .limit;
       valueCount = length-run file (valuePlace file) (suite .valueBytes) (p .key .body);
-      valueBytes = below-run file (valuePlace file) (suite .valueBytes) b;
+      valueBytes = below-slice file (valuePlace file) (suite .valueBytes) b;
       sampleCount = omega (arith, p .sample .limit);
-      sampleBits = words-fit (enciphered (streamOf suite ring file) (bytesAt file (bodyPlace suite file) (2 * sampleCount suite file)));
+      sampleBits = words-fit (enciphered (streamOf suite ring file) (slice file (bodyPlace suite file) (2 * sampleCount suite file)));
       loopCount = omega (arith, loop-count file (loopPlace suite file), p .loop .limit);
       loops = ap (λ (n : ℕ). loopsGood n (loopsIn file (loopPlace suite file))) counted ∙ p .loop .good;
     }

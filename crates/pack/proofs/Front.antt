@@ -10,11 +10,11 @@ use borrow.Author.Tests.{lt-ltb, le-ltb, ltb-true, ltb-false}
 use lib.Dec.{eqb, ltb}
 use lib.ListN.{length, take, drop}
 use lib.Seq.{take-nil, getD-take, take-take, length-take-le}
-use Rattle.octets.specs.Digits.{number}
+use Rattle.octets.specs.Digits.{number, slice}
 use Rattle.octets.proofs.Numbers.{Below}
 use Rattle.pack.specs.Faults.{Fault, _says_, first, nameFaults, keyFaults, sampleFaults, loopFaults, fileFaults}
 use Rattle.pack.specs.Layout.{nameGood, loopsGood}
-use Rattle.pack.specs.Places.{byteAt, bytesAt, foursAt, nameCount, keyPlace, samplePlace, sampleCount, loopPlace}
+use Rattle.pack.specs.Places.{byteAt, foursAt, nameCount, keyPlace, samplePlace, sampleCount, loopPlace}
 use Rattle.pack.specs.Suite.{trivium}
 
 drop-take : (a n : ℕ) (l : List ℕ) → drop a (take n l) ≡ take (n - a) (drop a l)
@@ -48,7 +48,7 @@ module _ (file : List ℕ) (bytes : Below 256 file) (n : ℕ) (far : 36000 ≤ n
   unfolding front
   same-byte i h = getD-take n file i 0 h
 
-  same-bytes : (a k : ℕ) → a + k ≤ n → bytesAt front a k ≡ bytesAt file a k
+  same-bytes : (a k : ℕ) → a + k ≤ n → slice front a k ≡ slice file a k
   unfolding front
   same-bytes a k h = ap (take k) (drop-take a n file) ∙ take-take k (n - a) (drop a file) (omega arith)
 
@@ -61,7 +61,7 @@ module _ (file : List ℕ) (bytes : Below 256 file) (n : ℕ) (far : 36000 ≤ n
   same-cut x h = le-ltb (length front) x (omega (arith, cut)) ∙ sym (le-ltb (length file) x (omega arith))
 
   -- a count that is read where both have it
-  same-field : (a : ℕ) → a + 4 ≤ n → number 256 (bytesAt front a 4) ≡ number 256 (bytesAt file a 4)
+  same-field : (a : ℕ) → a + 4 ≤ n → number 256 (slice front a 4) ≡ number 256 (slice file a 4)
   same-field a h = ap (number 256) (same-bytes a 4 h)
 
   name-byte : nameCount file < 256
@@ -74,8 +74,8 @@ module _ (file : List ℕ) (bytes : Below 256 file) (n : ℕ) (far : 36000 ≤ n
   names =
       let end : ltb (length front) (1 + nameCount front) ≡ ltb (length file) (1 + nameCount file) =
       ap (λ (k : ℕ). ltb (length front) (1 + k)) same-name ∙ same-cut (1 + nameCount file) (omega (arith, name-byte)) in
-      let name : bytesAt front 1 (nameCount front) ≡ bytesAt file 1 (nameCount file) =
-      ap (bytesAt front 1) same-name ∙ same-bytes 1 (nameCount file) (omega (arith, name-byte)) in
+      let name : slice front 1 (nameCount front) ≡ slice file 1 (nameCount file) =
+      ap (slice front 1) same-name ∙ same-bytes 1 (nameCount file) (omega (arith, name-byte)) in
       λ i.
       (same-cut 1 (omega arith) i says 10)
       ∷ (ltb 32 (same-name i) says 11)
@@ -93,11 +93,11 @@ module _ (file : List ℕ) (bytes : Below 256 file) (n : ℕ) (far : 36000 ≤ n
       ∷ []
 
   -- with a sample count within its limit, the samples end before n
-  some : (at : ℕ) → at + 4 + 2 * 16384 ≤ n → number 256 (bytesAt file at 4) ≤ 16384 → sampleFaults front at ≡ sampleFaults file at
+  some : (at : ℕ) → at + 4 + 2 * 16384 ≤ n → number 256 (slice file at 4) ≤ 16384 → sampleFaults front at ≡ sampleFaults file at
   some at h limit =
-      let count : number 256 (bytesAt front at 4) ≡ number 256 (bytesAt file at 4) = same-field at (omega arith) in
-      let end : ltb (length front) (at + 4 + 2 * number 256 (bytesAt front at 4)) ≡ ltb (length file) (at + 4 + 2 * number 256 (bytesAt file at 4)) =
-      ap (λ (k : ℕ). ltb (length front) (at + 4 + 2 * k)) count ∙ same-cut (at + 4 + 2 * number 256 (bytesAt file at 4)) (omega arith) in
+      let count : number 256 (slice front at 4) ≡ number 256 (slice file at 4) = same-field at (omega arith) in
+      let end : ltb (length front) (at + 4 + 2 * number 256 (slice front at 4)) ≡ ltb (length file) (at + 4 + 2 * number 256 (slice file at 4)) =
+      ap (λ (k : ℕ). ltb (length front) (at + 4 + 2 * k)) count ∙ same-cut (at + 4 + 2 * number 256 (slice file at 4)) (omega arith) in
       λ i. (same-cut (at + 4) (omega arith) i says 10) ∷ (ltb 16384 (count i) says 15) ∷ (end i says 10) ∷ []
 
   loops : (at samples : ℕ) → at + 1 + 8 * 256 ≤ n → loopFaults front at samples ≡ loopFaults file at samples
@@ -127,7 +127,7 @@ module _ (file : List ℕ) (bytes : Below 256 file) (n : ℕ) (far : 36000 ≤ n
   same-place = ap (λ (k : ℕ). k + 2 + 10) same-key
 
   same-count : sampleCount trivium front ≡ sampleCount trivium file
-  same-count = ap (λ (at : ℕ). number 256 (bytesAt front at 4)) same-place ∙ same-field (samplePlace trivium file) (omega (arith, name-byte))
+  same-count = ap (λ (at : ℕ). number 256 (slice front at 4)) same-place ∙ same-field (samplePlace trivium file) (omega (arith, name-byte))
 
   same-loops : loopPlace trivium front ≡ loopPlace trivium file
   same-loops = ap₂ (λ (at k : ℕ). at + 4 + 2 * k) same-place same-count
@@ -136,9 +136,9 @@ module _ (file : List ℕ) (bytes : Below 256 file) (n : ℕ) (far : 36000 ≤ n
   same-keys = ap (keyFaults trivium front) same-key ∙ keys (keyPlace file) (omega (arith, name-byte))
 
   -- a sample count over its limit is refused before anything behind it is looked at
-  over : (f : List ℕ) (at : ℕ) (rest : List Fault) → at + 4 ≤ length f → 16384 < number 256 (bytesAt f at 4) → first (sampleFaults f at ++ rest) ≡ 15
+  over : (f : List ℕ) (at : ℕ) (rest : List Fault) → at + 4 ≤ length f → 16384 < number 256 (slice f at 4) → first (sampleFaults f at ++ rest) ≡ 15
   unfolding first
-  over f at rest there many = rw (le-ltb (length f) (at + 4) there, lt-ltb 16384 (number 256 (bytesAt f at 4)) many)
+  over f at rest there many = rw (le-ltb (length f) (at + 4) there, lt-ltb 16384 (number 256 (slice f at 4)) many)
 
   -- the two first sections are the same, so what follows them decides
   first-same : (xs ys : List Fault) → first xs ≡ first ys

@@ -10,11 +10,11 @@ use lib.ListN.{length, getD, take, drop, length-append}
 use lib.Seq.{getD-drop, drop-drop, take-at, drop-at}
 use Rattle.octets.proofs.Numbers.{length-digits}
 use Rattle.octets.proofs.Streams.{length-enciphered, enciphered-twice}
-use Rattle.octets.specs.Digits.{number, digits}
+use Rattle.octets.specs.Digits.{number, digits, slice}
 use Rattle.octets.specs.Stream.{Keystream, enciphered}
 use Rattle.pack.specs.Faults.{first, fileFaults}
 use Rattle.pack.specs.Layout.{Parts, Within, nameGood, loopsGood, fours, row, layout, keySection, sampleSection, loopSection}
-use Rattle.pack.specs.Places.{byteAt, bytesAt, foursAt, nameCount, keyNumber, sampleCount, partsOf}
+use Rattle.pack.specs.Places.{byteAt, foursAt, nameCount, keyNumber, sampleCount, partsOf}
 use Rattle.pack.specs.Suite.{Suite}
 use Rattle.pack.proofs.Order.{NamePassed, KeyPassed, SamplePassed, LoopPassed, FilePassed, file-first}
 use Rattle.pack.proofs.Runs.{digits-four, length-fours, fours-written, loops-small, loops-even}
@@ -34,7 +34,7 @@ tail-byte : {file : List ℕ} {at x : ℕ} {rest : List ℕ} → Tail file at (x
 tail-byte {file} {at} t = ap (λ (n : ℕ). getD file n 0) (sym (add-zero at)) ∙ sym (getD-drop at file 0 0) ∙ ap (λ (l : List ℕ). getD l 0 0) (t .is)
 
 module _ {file : List ℕ} {at : ℕ} (run rest : List ℕ) (n : ℕ) (e : length run ≡ n) (t : Tail file at (run ++ rest)) where
-  tail-run : bytesAt file at n ≡ run
+  tail-run : slice file at n ≡ run
   tail-run = ap (take n) (t .is) ∙ take-at run rest n e
 
   tail-next : Tail file (at + n) rest
@@ -47,18 +47,18 @@ module _ {file : List ℕ} {at : ℕ} (run rest : List ℕ) (n : ℕ) (e : lengt
 -- ---- each section where it stands: it passes, gives back what was laid, and is followed by what follows it
 
 name-laid : {file : List ℕ} (name rest : List ℕ) → length name ≤ 32 → nameGood name ≡ true → Tail file 0 ((length name ∷ name) ++ rest)
-    → NamePassed file × (bytesAt file 1 (nameCount file) ≡ name) × Tail file (1 + nameCount file) rest
+    → NamePassed file × (slice file 1 (nameCount file) ≡ name) × Tail file (1 + nameCount file) rest
 name-laid {file} name rest limit good t =
     let n : ℕ = nameCount file in
     let count : length name ≡ n = sym (tail-byte t) in
     let after : Tail file 1 (name ++ rest) = tail-next (length name ∷ []) (name ++ rest) 1 refl t in
-    let run : bytesAt file 1 n ≡ name = tail-run name rest n count after in
+    let run : slice file 1 n ≡ name = tail-run name rest n count after in
     let next : Tail file (1 + n) rest = tail-next name rest n count after in
     (record { there = omega (arith, next .room); limit = omega arith; body = omega (arith, next .room); good = ap nameGood run ∙ good }, run, next)
 
 key-laid : (suite : Suite) {file : List ℕ} {at : ℕ} (key : ℕ) (value rest : List ℕ) → key ≤ 3 → length value ≡ suite .valueBytes
     → Tail file at ((suc (suite .valueBytes) ∷ key ∷ value) ++ rest)
-    → KeyPassed suite file at × (byteAt file (at + 1) ≡ key) × (bytesAt file (at + 2) (suite .valueBytes) ≡ value) × Tail file (at + 2 + suite .valueBytes) rest
+    → KeyPassed suite file at × (byteAt file (at + 1) ≡ key) × (slice file (at + 2) (suite .valueBytes) ≡ value) × Tail file (at + 2 + suite .valueBytes) rest
 key-laid suite {file} {at} key value rest limit size t =
     let n : ℕ = suite .valueBytes in
     let number : byteAt file (at + 1) ≡ key = tail-byte (tail-next (suc n ∷ []) (key ∷ value ++ rest) 1 refl t) in
@@ -72,10 +72,10 @@ key-laid suite {file} {at} key value rest limit size t =
 
 sample-laid : {file : List ℕ} {at : ℕ} (count : ℕ) (body rest : List ℕ) → count ≤ 16384 → length body ≡ 2 * count
     → Tail file at ((digits 256 4 count ++ body) ++ rest)
-    → SamplePassed file at × (number 256 (bytesAt file at 4) ≡ count) × (bytesAt file (at + 4) (2 * number 256 (bytesAt file at 4)) ≡ body)
-    × Tail file (at + 4 + 2 * number 256 (bytesAt file at 4)) rest
+    → SamplePassed file at × (number 256 (slice file at 4) ≡ count) × (slice file (at + 4) (2 * number 256 (slice file at 4)) ≡ body)
+    × Tail file (at + 4 + 2 * number 256 (slice file at 4)) rest
 sample-laid {file} {at} count body rest limit size t =
-    let n : ℕ = number 256 (bytesAt file at 4) in
+    let n : ℕ = number 256 (slice file at 4) in
     let front : List ℕ = digits 256 4 count in
     let whole : Tail file at (front ++ (body ++ rest)) = rw append-assoc at t in
     let counted : n ≡ count = ap (number 256) (tail-run front (body ++ rest) 4 (length-digits 256 4 count) whole) ∙ digits-four count (omega arith) in

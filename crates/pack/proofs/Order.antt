@@ -8,11 +8,11 @@ use native.Mathlib.Omega.{arith}
 use borrow.Author.Tests.{ltb-false, eqb-true, not-false, le-ltb, eq-eqb}
 use lib.Dec.{eqb, ltb}
 use lib.ListN.{length, drop}
-use Rattle.octets.specs.Digits.{number}
+use Rattle.octets.specs.Digits.{number, slice}
 use Rattle.octets.specs.Refusals.{noRoom}
 use Rattle.pack.specs.Faults.{Fault, _says_, first, nameFaults, keyFaults, sampleFaults, loopFaults, fileFaults, openFaults, sealFaults}
 use Rattle.pack.specs.Layout.{Parts, nameGood, loopsGood}
-use Rattle.pack.specs.Places.{byteAt, bytesAt, foursAt, nameCount, keyPlace, samplePlace, sampleCount, loopPlace}
+use Rattle.pack.specs.Places.{byteAt, foursAt, nameCount, keyPlace, samplePlace, sampleCount, loopPlace}
 use Rattle.pack.specs.Suite.{Suite}
 
 -- no number is 0, which would say that nothing is refused
@@ -82,7 +82,7 @@ pub record NamePassed (file : List ℕ) : Type 0 where
   pub there : 1 ≤ length file
   pub limit : nameCount file ≤ 32
   pub body : 1 + nameCount file ≤ length file
-  pub good : nameGood (bytesAt file 1 (nameCount file)) ≡ true
+  pub good : nameGood (slice file 1 (nameCount file)) ≡ true
 
 pub name-passed : (file : List ℕ) → first (nameFaults file) ≡ 0 → NamePassed file
 name-passed file e =
@@ -91,7 +91,7 @@ name-passed file e =
       there = ltb-false (length file) 1 (p .0);
       limit = ltb-false 32 (nameCount file) (p .1 .0);
       body = ltb-false (length file) (1 + nameCount file) (p .1 .1 .0);
-      good = not-false (nameGood (bytesAt file 1 (nameCount file))) (p .1 .1 .1 .0);
+      good = not-false (nameGood (slice file 1 (nameCount file))) (p .1 .1 .1 .0);
     }
 
 pub name-first : (file : List ℕ) → NamePassed file → first (nameFaults file) ≡ 0
@@ -148,16 +148,16 @@ key-first suite file at p =
 
 pub record SamplePassed (file : List ℕ) (at : ℕ) : Type 0 where
   pub there : at + 4 ≤ length file
-  pub limit : number 256 (bytesAt file at 4) ≤ 16384
-  pub body : at + 4 + 2 * number 256 (bytesAt file at 4) ≤ length file
+  pub limit : number 256 (slice file at 4) ≤ 16384
+  pub body : at + 4 + 2 * number 256 (slice file at 4) ≤ length file
 
 pub sample-passed : (file : List ℕ) (at : ℕ) → first (sampleFaults file at) ≡ 0 → SamplePassed file at
 sample-passed file at e =
     let p : Passed (sampleFaults file at) = passed (sampleFaults file at) (omega arith) e in
     record {
       there = ltb-false (length file) (at + 4) (p .0);
-      limit = ltb-false 16384 (number 256 (bytesAt file at 4)) (p .1 .0);
-      body = ltb-false (length file) (at + 4 + 2 * number 256 (bytesAt file at 4)) (p .1 .1 .0);
+      limit = ltb-false 16384 (number 256 (slice file at 4)) (p .1 .0);
+      body = ltb-false (length file) (at + 4 + 2 * number 256 (slice file at 4)) (p .1 .1 .0);
     }
 
 pub sample-first : (file : List ℕ) (at : ℕ) → SamplePassed file at → first (sampleFaults file at) ≡ 0
@@ -165,9 +165,9 @@ sample-first file at p =
     first-passed (sampleFaults file at) (
       le-ltb (length file) (at + 4) (p .there),
       (
-        le-ltb 16384 (number 256 (bytesAt file at 4)) (p .limit),
+        le-ltb 16384 (number 256 (slice file at 4)) (p .limit),
         (
-          le-ltb (length file) (at + 4 + 2 * number 256 (bytesAt file at 4)) (p .body),
+          le-ltb (length file) (at + 4 + 2 * number 256 (slice file at 4)) (p .body),
           tt,
         ),
       ),

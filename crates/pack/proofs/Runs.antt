@@ -15,10 +15,10 @@ use lib.ListN.{length, take, drop, length-append, length-drop, take-append-drop}
 use lib.Seq.{drop-cons, drop-drop, take-add, take-at, drop-at, length-take-le}
 use lib.Signed.{mag}
 use Rattle.octets.proofs.Numbers.{Below, below-take, below-drop, number-below, digits-number, number-digits, length-digits}
-use Rattle.octets.specs.Digits.{number, digits}
+use Rattle.octets.specs.Digits.{number, digits, slice}
 use Rattle.octets.specs.Stream.{Keystream, from, enciphered}
 use Rattle.pack.specs.Layout.{loopsGood, fours}
-use Rattle.pack.specs.Places.{byteAt, bytesAt, foursAt}
+use Rattle.pack.specs.Places.{byteAt, foursAt}
 use Rattle.pack.specs.Suite.{Suite, trivium}
 use Rattle.samples.proofs.Laws.{Fit}
 use Rattle.samples.specs.Words.{signed, wordsOf}
@@ -28,17 +28,14 @@ use Rattle.trivium.specs.Registers.{State, steps, started}
 
 -- ---- the rest of a file from a place on, cut again
 
-pub cut-run : (file : List ℕ) (at n : ℕ) → bytesAt file at n ++ drop (at + n) file ≡ drop at file
-cut-run file at n = ap (λ (l : List ℕ). bytesAt file at n ++ l) (sym (drop-drop n at file)) ∙ take-append-drop n (drop at file)
+pub cut-run : (file : List ℕ) (at n : ℕ) → slice file at n ++ drop (at + n) file ≡ drop at file
+cut-run file at n = ap (λ (l : List ℕ). slice file at n ++ l) (sym (drop-drop n at file)) ∙ take-append-drop n (drop at file)
 
 pub cut-byte : (file : List ℕ) (at : ℕ) → at + 1 ≤ length file → byteAt file at ∷ drop (at + 1) file ≡ drop at file
 cut-byte file at h = rw (add-one at) (sym (drop-cons file at 0 (omega arith)))
 
-pub length-run : (file : List ℕ) (at n : ℕ) → at + n ≤ length file → length (bytesAt file at n) ≡ n
+pub length-run : (file : List ℕ) (at n : ℕ) → at + n ≤ length file → length (slice file at n) ≡ n
 length-run file at n h = length-take-le n (drop at file) (simp length-drop (omega arith))
-
-pub below-run : {bound : ℕ} (file : List ℕ) (at n : ℕ) → Below bound file → Below bound (bytesAt file at n)
-below-run file at n b = below-take n (drop at file) (below-drop at file b)
 
 -- ---- numbers of four bytes
 

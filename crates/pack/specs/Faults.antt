@@ -5,10 +5,10 @@ use mathlib.Core.Bool.{Bool, not, cond}
 use mathlib.Core.List.{List, [], _∷_, _++_}
 use lib.Dec.{eqb, ltb}
 use lib.ListN.{length, drop}
-use Rattle.octets.specs.Digits.{number}
+use Rattle.octets.specs.Digits.{number, slice}
 use Rattle.octets.specs.Refusals.{accepted, badValue, noRoom, cutShort, longName, badName, badKeyCount, badKeyNumber, manySamples, manyLoops, badLoop, moreBytes}
 use Rattle.pack.specs.Layout.{Parts, nameGood, loopsGood}
-use Rattle.pack.specs.Places.{byteAt, bytesAt, foursAt, nameCount, keyPlace, samplePlace, sampleCount, loopPlace}
+use Rattle.pack.specs.Places.{byteAt, foursAt, nameCount, keyPlace, samplePlace, sampleCount, loopPlace}
 use Rattle.pack.specs.Suite.{Suite}
 
 -- whether a rule is broken, and the number for it
@@ -31,7 +31,7 @@ nameFaults file =
     (ltb (length file) 1 says cutShort)
     ∷ (ltb 32 (nameCount file) says longName)
     ∷ (ltb (length file) (1 + nameCount file) says cutShort)
-    ∷ (not (nameGood (bytesAt file 1 (nameCount file))) says badName)
+    ∷ (not (nameGood (slice file 1 (nameCount file))) says badName)
     ∷ []
 
 -- the section begins at `at`
@@ -45,7 +45,7 @@ keyFaults suite file at =
 
 abbrev pub sampleFaults : List ℕ → ℕ → List Fault
 sampleFaults file at =
-    let count = number 256 (bytesAt file at 4) in
+    let count = number 256 (slice file at 4) in
     (ltb (length file) (at + 4) says cutShort)
     ∷ (ltb 16384 count says manySamples)
     ∷ (ltb (length file) (at + 4 + 2 * count) says cutShort)

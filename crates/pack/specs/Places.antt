@@ -3,7 +3,7 @@
 use Prim.Native.Nat.{ℕ, zero, suc, _+_, _*_}
 use mathlib.Core.List.{List, [], _∷_}
 use lib.ListN.{getD, take, drop}
-use Rattle.octets.specs.Digits.{number}
+use Rattle.octets.specs.Digits.{number, slice}
 use Rattle.octets.specs.Stream.{enciphered}
 use Rattle.pack.specs.Layout.{Parts, row}
 use Rattle.pack.specs.Suite.{Suite}
@@ -12,10 +12,6 @@ use Rattle.samples.specs.Words.{wordsOf}
 -- the byte at a place, or 0 past the end
 abbrev pub byteAt : List ℕ → ℕ → ℕ
 byteAt file at = getD file at 0
-
--- n bytes from a place
-abbrev pub bytesAt : List ℕ → ℕ → ℕ → List ℕ
-bytesAt file at n = take n (drop at file)
 
 -- n numbers of four bytes
 unfoldable pub foursAt : ℕ → List ℕ → List ℕ
@@ -41,7 +37,7 @@ module _ (suite : Suite) where
   samplePlace file = valuePlace file + suite .valueBytes
 
   abbrev pub sampleCount : List ℕ → ℕ
-  sampleCount file = number 256 (bytesAt file (samplePlace file) 4)
+  sampleCount file = number 256 (slice file (samplePlace file) 4)
 
   -- where the enciphered samples begin
   abbrev pub bodyPlace : List ℕ → ℕ
@@ -61,12 +57,12 @@ module _ (suite : Suite) where
   -- what a file gives for each part, whether or not it is accepted
   unfoldable pub partsOf : List (List ℕ) → List ℕ → Parts
   partsOf ring file =
-      let value = bytesAt file (valuePlace file) (suite .valueBytes) in
+      let value = slice file (valuePlace file) (suite .valueBytes) in
       let key = row ring (keyNumber file) in
       record {
-        name = bytesAt file 1 (nameCount file);
+        name = slice file 1 (nameCount file);
         keyNumber = keyNumber file;
         value = value;
-        samples = wordsOf (enciphered (suite .stream key value) (bytesAt file (bodyPlace file) (2 * sampleCount file)));
+        samples = wordsOf (enciphered (suite .stream key value) (slice file (bodyPlace file) (2 * sampleCount file)));
         loops = foursAt (2 * loopCount file) (drop (loopsPlace file) file);
       }

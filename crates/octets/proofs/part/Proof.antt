@@ -4,7 +4,7 @@ use mathlib.Core.Path.{_≡_, ap, _∙_}
 use Prim.Native.Nat.{ℕ, _+_, _-_}
 use native.Mathlib.Omega.{arith}
 use borrow.Author.Needs.{needs}
-use lib.ListN.{take, drop}
+use Rattle.octets.specs.Digits.{slice}
 use Rattle.octets.proofs.Runs.{take-there}
 use Rattle.octets.proofs.part.Statement.{statement}
 use Rattle.octets.proofs.part.Tie as tie
@@ -19,7 +19,7 @@ returns : tie.Need-returns
 returns c =
     let p = c .before .before .before .before .args in
     let none : 0 ≡ c .before .before .there .result = omega arith in
-    ap (λ (k : ℕ). take k (drop (p .at) (p .s .now))) none
+    ap (slice (p .s .now) (p .at)) none
     ∙ take-there (p .s .now) (p .at) (p .n) (c .before .before .there .result) (c .before .before .there .ensures)
 
 add-end : tie.Need-add-end
@@ -39,7 +39,7 @@ returns-2 c =
     let p = c .before .before .before .before .args in
     let count : ℕ = c .before .before .there .result in
     let whole : p .at + count - p .at ≡ count = omega arith in
-    ap (λ (k : ℕ). take k (drop (p .at) (p .s .now))) whole
+    ap (slice (p .s .now) (p .at)) whole
     ∙ take-there (p .s .now) (p .at) (p .n) count (c .before .before .there .ensures)
 
 pub part-spec : {M : Type 1} → statement M

@@ -6,9 +6,10 @@ use mathlib.Core.List.{List}
 use native.Mathlib.Omega.{arith}
 use borrow.Author.Needs.{needs}
 use lib.IntN.{ℤ}
-use lib.ListN.{length, take, drop, length-take, length-drop}
+use lib.ListN.{length, length-take, length-drop}
+use Rattle.octets.specs.Digits.{slice}
 use Rattle.octets.specs.Outcome.{outcome}
-use Rattle.octets.specs.Stream.{Keystream, enciphered, placed}
+use Rattle.octets.specs.Stream.{enciphered, placed}
 use Rattle.samples.specs.Words.{wordsOf}
 use Rattle.trivium.specs.Keystream.{keystream}
 use Rattle.trivium.specs.Record.{state, packed}
@@ -18,7 +19,7 @@ use Rattle.trivium.proofs.Steps.{state-started}
 use Rattle.pack.specs.Calls.{acceptedOpening}
 use Rattle.pack.specs.Faults.{first, fileFaults}
 use Rattle.pack.specs.Layout.{row}
-use Rattle.pack.specs.Places.{bytesAt, keyNumber, valuePlace, sampleCount, partsOf}
+use Rattle.pack.specs.Places.{keyNumber, valuePlace, sampleCount, partsOf}
 use Rattle.pack.specs.Suite.{trivium}
 use Rattle.pack.specs.declared.Opened.{Opened}
 use Rattle.pack.proofs.Order.{FilePassed, file-passed}
@@ -29,20 +30,20 @@ use Rattle.pack.proofs.Sections.{survey-refusal, survey-yes, open-no, open-shor
 use Rattle.opener.proofs.open.Statement.{statement}
 use Rattle.opener.proofs.open.Tie as tie
 
-ten-bytes : (file : List ℕ) (at : ℕ) → at + 10 ≤ length file → length (take (at + 10 - at) (drop at file)) ≡ 10
+ten-bytes : (file : List ℕ) (at : ℕ) → at + 10 ≤ length file → length (slice file at (at + 10 - at)) ≡ 10
 ten-bytes file at h = simp (length-take, length-drop) (omega arith)
 
 -- the cipher of the row that the pack names
 keyed-row : (ring : List (List ℕ)) (file : List ℕ) (key value : ℕ) → key ≡ keyNumber file → keyNumber file ≤ 3 → value ≡ valuePlace file
-    → valuePlace file + 10 + 4 + 2 * sampleCount trivium file ≤ length file → {m : Made} → m ≡ making ring key (take (value + 10 - value) (drop value file))
-    → m .registers ≡ packed (started (row ring key) (take (value + 10 - value) (drop value file)))
+    → valuePlace file + 10 + 4 + 2 * sampleCount trivium file ≤ length file → {m : Made} → m ≡ making ring key (slice file value (value + 10 - value))
+    → m .registers ≡ packed (started (row ring key) (slice file value (value + 10 - value)))
 keyed-row ring file key value hk small hv body e =
     ap (λ (m : Made). m .registers) e
-    ∙ ring-makes ring key (take (value + 10 - value) (drop value file)) (omega arith) (ten-bytes file value (omega arith))
+    ∙ ring-makes ring key (slice file value (value + 10 - value)) (omega arith) (ten-bytes file value (omega arith))
 
 -- the body under the key that the pack names, read as samples
 deciphered : (ring : List (List ℕ)) (file : List ℕ) (output : List ℤ) (key value samples : ℕ) → key ≡ keyNumber file → value ≡ valuePlace file → samples ≡ sampleCount trivium file
-    → placed output 0 (wordsOf (enciphered (keystream (state (packed (started (row ring key) (take (value + 10 - value) (drop value file)))))) (bytesAt file (value + 10 + 4) (value + 10 + 4 + 2 * samples - (value + 10 + 4)))))
+    → placed output 0 (wordsOf (enciphered (keystream (state (packed (started (row ring key) (slice file value (value + 10 - value)))))) (slice file (value + 10 + 4) (value + 10 + 4 + 2 * samples - (value + 10 + 4)))))
     ≡ placed output 0 (partsOf trivium ring file .samples)
 unfolding partsOf
 deciphered ring file output key value samples hk hv hs =
@@ -50,10 +51,10 @@ deciphered ring file output key value samples hk hv hs =
     let body : (at n : ℕ) → at + 10 + 4 + 2 * n - (at + 10 + 4) ≡ 2 * n = λ at n. omega arith in
     ap (placed output 0)
     (ap₂ (λ (s : State) (bytes : List ℕ). wordsOf (enciphered (keystream s) bytes))
-    (state-started (row ring key) (take (value + 10 - value) (drop value file))
-    ∙ ap (λ (n : ℕ). started (row ring key) (take n (drop value file))) (ten value)
-    ∙ ap₂ (λ (k at : ℕ). started (row ring k) (take 10 (drop at file))) hk hv)
-    (ap (bytesAt file (value + 10 + 4)) (body value samples) ∙ ap₂ (λ (at n : ℕ). bytesAt file (at + 10 + 4) (2 * n)) hv hs))
+    (state-started (row ring key) (slice file value (value + 10 - value))
+    ∙ ap (λ (n : ℕ). started (row ring key) (slice file value n)) (ten value)
+    ∙ ap₂ (λ (k at : ℕ). started (row ring k) (slice file at 10)) hk hv)
+    (ap (slice file (value + 10 + 4)) (body value samples) ∙ ap₂ (λ (at n : ℕ). slice file (at + 10 + 4) (2 * n)) hv hs))
 
 -- a survey that isn't refused
 passed : (c : tie.Else1) → first (fileFaults trivium (c .before .before .before .args .file .now)) ≡ 0
@@ -151,7 +152,7 @@ returns-3 c =
     let o = e .before .survey .result in
     let read : c .before .read-samples .last .1 .1 .1 .0 ≡ placed (p .output .now) 0 (partsOf trivium (p .ring) (p .file .now) .samples) =
     c .before .read-samples .ensures
-    ∙ ap (λ (r : Registers). placed (p .output .now) 0 (wordsOf (enciphered (keystream (state r)) (bytesAt (p .file .now) (o .«value_at» + 10 + 4) (o .«value_at» + 10 + 4 + 2 * o .samples - (o .«value_at» + 10 + 4))))))
+    ∙ ap (λ (r : Registers). placed (p .output .now) 0 (wordsOf (enciphered (keystream (state r)) (slice (p .file .now) (o .«value_at» + 10 + 4) (o .«value_at» + 10 + 4 + 2 * o .samples - (o .«value_at» + 10 + 4))))))
     (keyed-row (p .ring) (p .file .now) (o .key) (o .«value_at») (f .key) (f .row) (f .value) (f .body) (c .before .before .before .before .before .keyed .ensures))
     ∙ deciphered (p .ring) (p .file .now) (p .output .now) (o .key) (o .«value_at») (o .samples) (f .key) (f .value) (f .samples) in
     ap₂ (λ (a : Opened) (d : List ℤ). outcome a d) (answered e) read

@@ -6,8 +6,8 @@ use mathlib.Core.List.{List}
 use native.Mathlib.Omega.{arith}
 use borrow.Author.Needs.{needs}
 use borrow.Author.Tests.{lt-ltb, le-ltb}
-use lib.ListN.{length, take, drop}
-use Rattle.octets.specs.Digits.{number, numberAt}
+use lib.ListN.{length}
+use Rattle.octets.specs.Digits.{number, slice, numberAt}
 use Rattle.pack.specs.Faults.{first}
 use Rattle.octets.proofs.Numbers.{Below}
 use Rattle.pack.proofs.Fours.{four-bytes}
@@ -15,7 +15,7 @@ use Rattle.opener.proofs.sample_fault.Statement.{statement}
 use Rattle.opener.proofs.sample_fault.Tie as tie
 
 -- the count as the code reads it
-counted : (f : List ℕ) (at : ℕ) → Below 256 f → {n : ℕ} → n ≡ numberAt f at 4 → n ≡ number 256 (take 4 (drop at f))
+counted : (f : List ℕ) (at : ℕ) → Below 256 f → {n : ℕ} → n ≡ numberAt f at 4 → n ≡ number 256 (slice f at 4)
 counted f at b e = e ∙ four-bytes f at b
 
 add-if1 : tie.Need-add-if1
@@ -36,7 +36,7 @@ unfolding first
 returns-2 c =
     let f = c .before .before .before .before .args .file .now in
     let at = c .before .before .before .before .args .at in
-    let count : ℕ = number 256 (take 4 (drop at f)) in
+    let count : ℕ = number 256 (slice f at 4) in
     let same : c .before .number-at .result ≡ count = counted f at (λ i. omega (arith, c .before .before .before .shared-slice-known .given i)) (c .before .number-at .ensures) in
     rw (le-ltb (length f) (at + 4) (omega arith), lt-ltb 16384 count (omega arith))
 
@@ -54,7 +54,7 @@ unfolding first
 returns-3 c =
     let f = c .before .before .before .before .before .args .file .now in
     let at = c .before .before .before .before .before .args .at in
-    let count : ℕ = number 256 (take 4 (drop at f)) in
+    let count : ℕ = number 256 (slice f at 4) in
     let same : c .before .before .number-at .result ≡ count = counted f at (λ i. omega (arith, c .before .before .before .before .shared-slice-known .given i)) (c .before .before .number-at .ensures) in
     rw (le-ltb (length f) (at + 4) (omega arith), le-ltb 16384 count (omega arith), lt-ltb (length f) (at + 4 + 2 * count) (omega arith))
 
@@ -63,7 +63,7 @@ unfolding first
 returns-4 c =
     let f = c .before .before .before .before .before .args .file .now in
     let at = c .before .before .before .before .before .args .at in
-    let count : ℕ = number 256 (take 4 (drop at f)) in
+    let count : ℕ = number 256 (slice f at 4) in
     let same : c .before .before .number-at .result ≡ count = counted f at (λ i. omega (arith, c .before .before .before .before .shared-slice-known .given i)) (c .before .before .number-at .ensures) in
     rw (le-ltb (length f) (at + 4) (omega arith), le-ltb 16384 count (omega arith), le-ltb (length f) (at + 4 + 2 * count) (omega arith))
 
