@@ -3,8 +3,7 @@
 use Prim.Native.Nat.{ℕ}
 use mathlib.Core.List.{List, _++_}
 use Rattle.octets.specs.Stream.{Keystream, from, enciphered}
-use Rattle.trivium.specs.Keystream.{keystream}
-use Rattle.trivium.specs.Registers.{started}
+use Rattle.trivium.specs.Keystream.{streamOf}
 use Rattle.frames.specs.Blocks.{place}
 use Rattle.frames.specs.Frames.{four}
 
@@ -13,7 +12,7 @@ Cipher = List ℕ → List ℕ → Keystream
 
 -- the cipher of demand 2, which the contracts cite
 unfoldable pub trivium : Cipher
-trivium key iv = keystream (started key iv)
+trivium = streamOf
 
 -- the initial value of a session: the pair name, then the session
 unfoldable pub initial : List ℕ → ℕ → List ℕ

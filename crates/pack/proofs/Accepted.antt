@@ -96,15 +96,15 @@ loop-again file at samples b p =
 -- ---- the whole file
 
 -- the keystream of the file's key and initial value
-abbrev streamOf : Suite → List (List ℕ) → List ℕ → Keystream
-streamOf suite ring file = suite .stream (row ring (keyNumber file)) (slice file (valuePlace file) (suite .valueBytes))
+abbrev streamIn : Suite → List (List ℕ) → List ℕ → Keystream
+streamIn suite ring file = suite .stream (row ring (keyNumber file)) (slice file (valuePlace file) (suite .valueBytes))
 
 -- as many samples are read as are counted
 pub samples-counted : (suite : Suite) (ring : List (List ℕ)) (file : List ℕ) → SamplePassed file (samplePlace suite file)
     → length (partsOf suite ring file .samples) ≡ sampleCount suite file
 unfolding partsOf
 samples-counted suite ring file p =
-    counted (sampleCount suite file) (streamOf suite ring file) (slice file (bodyPlace suite file) (2 * sampleCount suite file))
+    counted (sampleCount suite file) (streamIn suite ring file) (slice file (bodyPlace suite file) (2 * sampleCount suite file))
     (length-run file (bodyPlace suite file) (2 * sampleCount suite file) (p .body))
 
 laid-again : (suite : Suite) (ring : List (List ℕ)) → OfBytes suite → (file : List ℕ) → Below 256 file → FilePassed suite file
@@ -114,7 +114,7 @@ laid-again suite ring bytes file b p =
     let parts : Parts = partsOf suite ring file in
     let tail : sampleSection suite ring parts ++ loopSection parts ≡ drop (samplePlace suite file) file =
     ap (λ (l : List ℕ). sampleSection suite ring parts ++ l) (loop-again file (loopPlace suite file) (sampleCount suite file) b (p .loop))
-    ∙ sample-again file (samplePlace suite file) (streamOf suite ring file) (bytes (row ring (parts .keyNumber)) (parts .value)) b (p .sample) in
+    ∙ sample-again file (samplePlace suite file) (streamIn suite ring file) (bytes (row ring (parts .keyNumber)) (parts .value)) b (p .sample) in
     ap (λ (l : List ℕ). nameSection parts ++ l)
     (ap (λ (l : List ℕ). keySection suite parts ++ l) tail
     ∙ key-again suite file (keyPlace file) (p .key))
@@ -131,7 +131,7 @@ parts-within suite ring file b p =
       valueCount = length-run file (valuePlace file) (suite .valueBytes) (p .key .body);
       valueBytes = below-slice file (valuePlace file) (suite .valueBytes) b;
       sampleCount = omega (arith, p .sample .limit);
-      sampleBits = words-fit (enciphered (streamOf suite ring file) (slice file (bodyPlace suite file) (2 * sampleCount suite file)));
+      sampleBits = words-fit (enciphered (streamIn suite ring file) (slice file (bodyPlace suite file) (2 * sampleCount suite file)));
       loopCount = omega (arith, loop-count file (loopPlace suite file), p .loop .limit);
       loops = ap (λ (n : ℕ). loopsGood n (loopsIn file (loopPlace suite file))) counted ∙ p .loop .good;
     }

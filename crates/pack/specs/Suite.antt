@@ -3,12 +3,11 @@
 use Prim.Native.Nat.{ℕ}
 use mathlib.Core.List.{List}
 use Rattle.octets.specs.Stream.{Keystream}
-use Rattle.trivium.specs.Keystream.{keystream}
-use Rattle.trivium.specs.Registers.{started}
+use Rattle.trivium.specs.Keystream.{streamOf}
 
 pub record Suite : Type 0 where
   pub valueBytes : ℕ
   pub stream : List ℕ → List ℕ → Keystream
 
 abbrev pub trivium : Suite
-trivium = record { valueBytes = 10; stream = λ key value. keystream (started key value) }
+trivium = record { valueBytes = 10; stream = streamOf }

@@ -23,10 +23,10 @@ use Rattle.pack.specs.declared.Sealed.{Sealed}
 use Rattle.pack.proofs.Runs.{length-fours}
 use Rattle.samples.proofs.Laws.{length-bytes, bytes-append}
 use Rattle.samples.specs.Words.{bytesOfAll}
-use Rattle.trivium.proofs.Steps.{state-started, Held, held-next, steps-suc}
-use Rattle.trivium.specs.Keystream.{keystream}
+use Rattle.trivium.proofs.Steps.{state-started}
+use Rattle.trivium.specs.Keystream.{keystream, streamOf}
 use Rattle.trivium.specs.Record.{state, packed}
-use Rattle.trivium.specs.Registers.{State, steps, started}
+use Rattle.trivium.specs.Registers.{started}
 
 -- ---- runs in a buffer
 
@@ -236,8 +236,5 @@ module _ (suite : Suite) (ring : List (List ℕ)) (p : Parts) (output : List ℕ
       ∙ rw (same-fault ∙ sym e)
 
 -- a cipher just made goes on from where it started
-pub keystream-started : (key value : List ℕ) → keystream (state (packed (started key value))) ≡ keystream (started key value)
+pub keystream-started : (key value : List ℕ) → keystream (state (packed (started key value))) ≡ streamOf key value
 keystream-started key value = ap keystream (state-started key value)
-  where
-    held : (n : ℕ) (s : State) → Held (steps (suc n) s)
-    held n s = rw (steps-suc n s) (held-next (steps n s))
