@@ -3,6 +3,7 @@
 use trials::Tally;
 use trials::all_words;
 use trials::equal;
+use trials::shuffled;
 use trials::walk;
 use trivium::Registers;
 ghost use Prim.Native.Nat.{_≤_};
@@ -27,13 +28,6 @@ const C_TOP: u64 = 140737488355328;
 struct Skips {
     agree: Tally,
     trimmed: Tally,
-}
-
-// A word of Marsaglia's xorshift generator from the word before it. It goes through every word but 0.
-fn shuffled(x: u64) -> u64 {
-    let y = x ^ (x << 13);
-    let z = y ^ (y >> 7);
-    z ^ (z << 17)
 }
 
 // The next six pseudo-random words. The last of them is where the next contents go on from.

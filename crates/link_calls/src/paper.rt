@@ -1,4 +1,5 @@
 // The four frames as the paper gives them, byte by byte, and lent bytes with a sentinel.
+use trials::shuffled;
 ghost use mathlib.Core.Path.{_≡_};
 ghost use lib.ListN.{length};
 
@@ -102,13 +103,6 @@ pub fn begins_with(bytes: &[u8], first: &[u8]) -> bool {
         return false;
     }
     check::same(&bytes[0..n], first) && untouched(&bytes[n..])
-}
-
-// A word of Marsaglia's xorshift generator from the word before it.
-fn shuffled(x: u64) -> u64 {
-    let y = x ^ (x << 13);
-    let z = y ^ (y >> 7);
-    z ^ (z << 17)
 }
 
 // A sound of 1,024 bytes, of which a test takes the front.

@@ -4,6 +4,7 @@ use receiver::Receiver;
 use sender::Phase;
 use sender::Sender;
 use trials::Tally;
+use trials::shuffled;
 ghost use mathlib.Core.Path.{_≡_};
 ghost use Prim.Native.Nat.{_≤_, _<_};
 ghost use lib.ListN.{length};
@@ -72,13 +73,6 @@ struct Run {
     random: u64,
     counts: Counts,
     facts: Facts,
-}
-
-// A word of Marsaglia's xorshift generator from the word before it. It goes through every word but 0.
-fn shuffled(x: u64) -> u64 {
-    let y = x ^ (x << 13);
-    let z = y ^ (y >> 7);
-    z ^ (z << 17)
 }
 
 // A sum that may wrap asks for no proof, and no count here comes near its end.

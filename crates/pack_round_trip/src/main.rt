@@ -3,6 +3,7 @@
 use pack::Opened;
 use pack::Sealed;
 use trials::Tally;
+use trials::shuffled;
 ghost use mathlib.Core.Path.{_≡_};
 ghost use Prim.Native.Nat.{_≤_};
 ghost use lib.ListN.{length};
@@ -127,13 +128,6 @@ fn same_run(a: &[u32], b: &[u32]) -> bool {
         i += 1;
     }
     true
-}
-
-// A word of Marsaglia's xorshift generator from the word before it. It goes through every word but 0.
-fn shuffled(x: u64) -> u64 {
-    let y = x ^ (x << 13);
-    let z = y ^ (y >> 7);
-    z ^ (z << 17)
 }
 
 // The sample at a place of a sound, of the pseudo-random word for that place.

@@ -5,6 +5,7 @@ use Prim.Native.Nat.{ℕ}
 use mathlib.Core.Bool.{Bool}
 use Rattle.octets.specs.Outcome.{only-one}
 use Rattle.trivium.specs.declared.Registers.{Registers}
+use Rattle.trials.specs.Shuffles.{shuffling}
 use Rattle.trials.specs.Tallies.{none, counted, passed}
 use Rattle.trials.specs.Walks.{allWords, same, walking}
 use Rattle.trials.specs.declared.Tally.{Tally}
@@ -27,3 +28,6 @@ same-only x y one other = only-one
 
 pub walking-only : (n : ℕ) (r : Registers) (one other : Walked) → one ≡ walking n r → other ≡ walking n r → one ≡ other
 walking-only n r one other = only-one
+
+pub shuffling-only : (x one other : ℕ) → one ≡ shuffling x → other ≡ shuffling x → one ≡ other
+shuffling-only x one other = only-one

@@ -1,2 +1,3 @@
+pub mod Shuffles
 pub mod Tallies
 pub mod Walks

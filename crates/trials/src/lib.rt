@@ -1,6 +1,8 @@
-// What the test programs share: a tally of cases with the line that it is printed as, and a walk by the plain engine.
+// What the test programs share: a tally of cases with the line that it is printed as, a walk by the plain engine, and words that
+// look random.
 use trivium::Registers;
 ghost use mathlib.Core.Path.{_≡_};
+ghost use Rattle.trials.specs.Shuffles.{shuffling};
 ghost use Rattle.trials.specs.Tallies.{none, oneMore, counted, passed};
 ghost use Rattle.trials.specs.Walks.{allWords, same, walking};
 
@@ -143,4 +145,13 @@ pub fn walk(from: Registers, steps: usize) -> Walked
         word,
         next: registers,
     }
+}
+
+// A word of Marsaglia's xorshift generator from the word before it. It goes through every word but 0.
+pub fn shuffled(x: u64) -> u64
+    ensures { λ r. ⌜ r ≡ shuffling x ⌝ }
+{
+    let y = x ^ (x << 13);
+    let z = y ^ (y >> 7);
+    z ^ (z << 17)
 }
