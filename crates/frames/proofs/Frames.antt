@@ -8,9 +8,10 @@ use native.Mathlib.Nat.{mod-eq-of-lt}
 use native.Mathlib.Omega.{arith}
 use borrow.Author.Tests.{eq-eqb, eqb-true}
 use lib.Dec.{eqb}
-use lib.ListN.{length, take, drop, length-take, length-drop, take-append-drop}
+use lib.ListN.{length, take, drop, length-drop, take-append-drop}
 use lib.Seq.{take-add, take-all}
 use Rattle.octets.specs.Digits.{number, numberAfter, digits, slice}
+use Rattle.octets.proofs.Runs.{length-slice}
 use Rattle.octets.proofs.Numbers.{Below, below-slice, number-digits, digits-number, field-below}
 use Rattle.frames.specs.Frames.{Frame, opening, block, holds, tooLong, four, two, bytes, inLimits, Heard, it, noFrame, field, shape, kept, heard, Fits, Good}
 use Rattle.frames.proofs.Tests.{by-cond, chosen, and-first, and-second}
@@ -45,12 +46,11 @@ heard-bytes (tooLong session) g =
 
 module _ (message : List ℕ) (b : Below 256 message) where
   -- the digits of the number are the bytes that it was read from
-  grow : (at n : ℕ) → at + n ≤ length message → take at message ++ digits 256 n (field message at n) ≡ take (at + n) message
+  pub grow : (at n : ℕ) → at + n ≤ length message → take at message ++ digits 256 n (field message at n) ≡ take (at + n) message
   grow at n h =
       let some : List ℕ = slice message at n in
-      let long : length some ≡ n = simp (length-take, length-drop) (omega arith) in
       ap (λ (l : List ℕ). take at message ++ l)
-      (ap (λ (k : ℕ). digits 256 k (number 256 some)) (sym long)
+      (ap (λ (k : ℕ). digits 256 k (number 256 some)) (sym (length-slice message at n h))
       ∙ digits-number 256 (omega arith) some (below-slice message at n b))
       ∙ sym (take-add at n message)
 

@@ -7,7 +7,7 @@ use Rattle.octets.specs.Outcome.{only-one}
 use Rattle.octets.specs.Stream.{put}
 use Rattle.frames.specs.Blocks.{blocks, size}
 use Rattle.frames.specs.Cipher.{trivium, covered}
-use Rattle.frames.specs.Frames.{Frame, heard}
+use Rattle.frames.specs.Frames.{Frame, field, heard}
 use Rattle.frames.specs.Naming.{named}
 use Rattle.frames.specs.Reading.{told}
 use Rattle.frames.specs.Writing.{written}
@@ -19,6 +19,10 @@ block-count-only length one other = only-one
 
 pub block-size-only : (length k one other : ℕ) → one ≡ size length k → other ≡ size length k → one ≡ other
 block-size-only length k one other = only-one
+
+-- the two that read a number
+pub field-only : (message : List ℕ) (at n one other : ℕ) → one ≡ field message at n → other ≡ field message at n → one ≡ other
+field-only message at n one other = only-one
 
 pub read-only : (message : List ℕ) (one other : Told) → one ≡ told (heard message) → other ≡ told (heard message) → one ≡ other
 read-only message one other = only-one

@@ -7,22 +7,14 @@ use native.Mathlib.Nat.{zero-add, mod-lt}
 use native.Mathlib.Omega.{arith}
 use borrow.Author.Tests.{le-leb, lt-leb}
 use borrow.Rule.Slice.PartMut.{putMid}
-use lib.ListN.{length, getD, take, drop, length-append, length-take, length-drop}
+use lib.ListN.{length, getD, take, drop, length-drop}
 use lib.Seq.{take-all, drop-cons, drop-length, drop-drop}
 use Rattle.octets.specs.Digits.{digits}
 use Rattle.octets.specs.Stream.{placed, numberPlaced}
 use Rattle.octets.proofs.Numbers.{Below, length-digits}
-use Rattle.octets.proofs.Streams.{put-placed, put-none, placed-append}
+use Rattle.octets.proofs.Streams.{put-placed, put-none, number-placed, length-placed, placed-append}
 use Rattle.frames.specs.Frames.{Frame, opening, block, holds, tooLong, four, bytes}
 use Rattle.frames.specs.Writing.{written}
-
-pub length-placed : (d : List ℕ) (at : ℕ) (run : List ℕ) → at + length run ≤ length d → length (placed d at run) ≡ length d
-unfolding placed
-length-placed d at run h = simp (length-append, length-take, length-drop) (omega arith)
-
-pub number-placed : (d : List ℕ) (at n value : ℕ) → n ≤ 8 → at + n ≤ length d → numberPlaced d at n value ≡ placed d at (digits 256 n value)
-unfolding numberPlaced
-number-placed d at n value small room = rw (le-leb n 8 small, le-leb (at + n) (length d) room)
 
 -- a run behind the front
 pub run-behind : (d front : List ℕ) (at : ℕ) (run : List ℕ) → length front ≡ at → at + length run ≤ length d

@@ -77,14 +77,14 @@ pub fn block_size(length: usize, k: u16) -> usize
     }
 }
 
-// A number of two bytes, and one of four, from `at`.
-fn two_at(message: &[u8], at: usize) -> u16
+// A number of two bytes, and one of four, from `at`, or of as many as are there.
+pub fn two_at(message: &[u8], at: usize) -> u16
     ensures { λ r. ⌜ r ≡ field (now (message .entry)) at 2 ⌝ }
 {
     octets::number_at(message, at, 2) as u16
 }
 
-fn four_at(message: &[u8], at: usize) -> u32
+pub fn four_at(message: &[u8], at: usize) -> u32
     ensures { λ r. ⌜ r ≡ field (now (message .entry)) at 4 ⌝ }
 {
     octets::number_at(message, at, 4) as u32

@@ -11,7 +11,7 @@ use Rattle.octets.specs.Stream.{placed}
 use Rattle.frames.specs.Blocks.{blocks, place, size, blockOf}
 use Rattle.frames.specs.Cipher.{Cipher, covered}
 use Rattle.frames.proofs.Ciphering.{covered-twice, length-block-of}
-use Rattle.frames.proofs.Writing.{length-placed}
+use Rattle.octets.proofs.Streams.{length-placed}
 use Rattle.link.proofs.Invariant.{Held}
 
 -- no more can be taken than there is

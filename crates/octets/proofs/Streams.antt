@@ -10,9 +10,9 @@ use borrow.Author.Tests.{le-leb, lt-leb}
 use lib.Bits.{bitXor, xor-shr, xor-mod}
 use lib.ListN.{length, getD, take, drop, length-append, length-take, length-drop, drop-of-length-le}
 use lib.Pow.{pow-add}
-use lib.Seq.{take-add, take-at, drop-at, drop-drop, length-take-le, paste-zero, take-all}
+use lib.Seq.{drop-length, take-add, take-at, drop-at, drop-drop, length-take-le, paste-zero, take-all}
 use Rattle.octets.specs.Digits.{number, digits}
-use Rattle.octets.specs.Stream.{Keystream, from, enciphered, placed, put}
+use Rattle.octets.specs.Stream.{Keystream, from, enciphered, placed, put, numberPlaced}
 use Rattle.octets.proofs.Bits.{xor-twice}
 use Rattle.octets.proofs.Numbers.{Below, digits-number}
 
@@ -97,7 +97,25 @@ pub put-none : (d : List ℕ) (at : ℕ) (run : List ℕ) → length d < at + le
 unfolding put
 put-none d at run short = rw (lt-leb (at + length run) (length d) short)
 
+-- a run that fills its buffer
+pub put-whole : (d run : List ℕ) → length run ≡ length d → put d 0 run ≡ run
+unfolding placed
+put-whole d run e =
+    let all : 0 + length run ≡ length d = omega arith in
+    put-placed d 0 run (omega arith)
+    ∙ ap (λ (n : ℕ). run ++ drop n d) all
+    ∙ ap (λ (l : List ℕ). run ++ l) (drop-length d)
+    ∙ append-nil run
+
+pub number-placed : (d : List ℕ) (at n value : ℕ) → n ≤ 8 → at + n ≤ length d → numberPlaced d at n value ≡ placed d at (digits 256 n value)
+unfolding numberPlaced
+number-placed d at n value small room = rw (le-leb n 8 small, le-leb (at + n) (length d) room)
+
 module _ {A : Type 0} where
+  pub length-placed : (d : List A) (at : ℕ) (run : List A) → at + length run ≤ length d → length (placed d at run) ≡ length d
+  unfolding placed
+  length-placed d at run h = simp (length-append, length-take, length-drop) (omega arith)
+
   pub placed-nothing : (buffer : List A) (at : ℕ) → placed buffer at [] ≡ buffer
   unfolding placed
   placed-nothing buffer at = sym (paste-zero buffer at [])

@@ -13,6 +13,10 @@ badKey = 1
 abbrev pub badValue : ℕ
 badValue = 2
 
+-- the C interface's own: bytes lent as a cipher that are not 48
+abbrev pub notACipher : ℕ
+notACipher = 3
+
 -- file ends inside a section
 abbrev pub cutShort : ℕ
 cutShort = 10

@@ -1,5 +1,6 @@
 ghost use mathlib.Core.Path.{_≡_};
-ghost use Prim.Native.Nat.{_-_, min};
+ghost use Prim.Native.Nat.{_+_, _-_, _≤_, min};
+ghost use lib.ListN.{length};
 ghost use Rattle.octets.specs.Digits.{slice, numberAt};
 ghost use Rattle.octets.specs.Stream.{put, numberPlaced};
 
@@ -25,11 +26,37 @@ pub fn part(s: &[u8], at: usize, n: usize) -> &[u8]
     &s[at..end]
 }
 
+// The number that four bytes from `at` make, all of them there. Written in straight line, for the compiler to read them as one
+// word; it does so for two of these in a row as well.
+fn four_at(s: &[u8], at: usize) -> u64
+    requires { ⌜ at + 4 ≤ length (now s) ⌝ }
+    ensures { λ r. ⌜ r ≡ numberAt (now (s .entry)) at 4 ⌝ }
+{
+    let first = s[at] as u64;
+    let second = s[at + 1] as u64;
+    let third = s[at + 2] as u64;
+    let fourth = s[at + 3] as u64;
+    first * 16777216 + second * 65536 + third * 256 + fourth
+}
+
+// The number that eight bytes from `at` make, all of them there.
+fn eight_at(s: &[u8], at: usize) -> u64
+    requires { ⌜ at + 8 ≤ length (now s) ⌝ }
+    ensures { λ r. ⌜ r ≡ numberAt (now (s .entry)) at 8 ⌝ }
+{
+    let upper = four_at(s, at);
+    let lower = four_at(s, at + 4);
+    upper * 4294967296 + lower
+}
+
 // The number that n bytes from `at` make, the most significant first.
 pub fn number_at(s: &[u8], at: usize, n: usize) -> u64
     ensures { λ r. ⌜ r ≡ numberAt (now (s .entry)) at n ⌝ }
 {
     let count = there(s.len(), at, n);
+    if count == 8 {
+        return eight_at(s, at);
+    }
     let mut value: u64 = 0;
     let mut i = 0;
     while i < count {

@@ -1,6 +1,7 @@
 ghost use mathlib.Core.Path.{_≡_};
-ghost use Prim.Native.Nat.{_+_, _*_, _/_, _<_, _≤_, min};
+ghost use Prim.Native.Nat.{_+_, _*_, _/_, _<_, _≤_};
 ghost use lib.ListN.{length, take, drop};
+ghost use Rattle.octets.specs.Digits.{digits};
 ghost use Rattle.octets.specs.Outcome.{outcome};
 ghost use Rattle.octets.specs.Stream.{enciphered, placed};
 ghost use Rattle.pack.specs.Calls.{refusedOpening, surveying, opening};
@@ -37,8 +38,8 @@ const MORE_BYTES: u8 = 18;
 
 const NO_ROOM: u8 = 19;
 
-// How many bytes are deciphered or enciphered at a time.
-const CHUNK: usize = 512;
+// How many bytes are deciphered at a time: two strides of the cipher.
+const CHUNK: usize = 16;
 
 fn refused_opening(number: u8) -> Opened
     ensures { λ r. ⌜ r ≡ refusedOpening number ⌝ }
@@ -160,7 +161,7 @@ fn loop_fault(file: &[u8], at: usize, samples: usize) -> u8
 }
 
 // What a file says of itself, before any room for its samples is looked at.
-fn survey(file: &[u8]) -> Opened
+pub fn survey(file: &[u8]) -> Opened
     ensures { λ r. ⌜ r ≡ surveying Suite.trivium (now (file .entry)) ⌝ }
 {
     let in_name = name_fault(file);
@@ -196,38 +197,54 @@ fn survey(file: &[u8]) -> Opened
     }
 }
 
-// Room for a chunk. Its length is all that anybody needs to know of it.
-fn blank() -> [u8; 512]
-    ensures { λ r. ⌜ 512 ≡ length r ⌝ }
+// Four samples at their place: those that the eight bytes of a word are.
+fn put_four(output: &mut [i16], place: usize, word: u64)
+    requires { ⌜ place + 4 ≤ length (now output) ⌝ }
+    ensures { λ _. ⌜ now (output .exit) ≡ placed (now (output .entry)) place (wordsOf (digits 256 8 word)) ⌝ }
+{
+    let first = samples::word(((word >> 56) % 256) as u8, ((word >> 48) % 256) as u8);
+    let second = samples::word(((word >> 40) % 256) as u8, ((word >> 32) % 256) as u8);
+    let third = samples::word(((word >> 24) % 256) as u8, ((word >> 16) % 256) as u8);
+    let fourth = samples::word(((word >> 8) % 256) as u8, (word % 256) as u8);
+    output[place] = first;
+    output[place + 1] = second;
+    output[place + 2] = third;
+    output[place + 3] = fourth;
+}
+
+// A chunk of the body from `at`, deciphered and read as samples to their place, by whole words: no byte is stored between.
+fn read_chunk(registers: Registers, body: &[u8], output: &mut [i16], at: usize) -> Registers
+    requires { ⌜ (at + 16 ≤ length (now body)) × (at / 2 + 8 ≤ length (now output)) ⌝ }
+    ensures { λ r. ⌜ (r ≡ skipping registers 16)
+        × (now (output .exit) ≡ placed (now (output .entry)) (at / 2) (wordsOf (enciphered (keystream (state registers)) (take 16 (drop at (now (body .entry))))))) ⌝ }
+{
+    let place = at / 2;
+    let first = octets::number_at(body, at, 8);
+    let second = octets::number_at(body, at + 8, 8);
+    let one = registers.stride();
+    put_four(output, place, first ^ one.word);
+    let two = one.next.stride();
+    put_four(output, place + 4, second ^ two.word);
+    two.next
+}
+
+// Room for what is left behind the last chunk. Its length is all that anybody needs to know of it.
+fn blank() -> [u8; 16]
+    ensures { λ r. ⌜ 16 ≡ length r ⌝ }
 {
     [0; CHUNK]
 }
 
-// So many bytes of the body from `at`, deciphered and read as samples to their place.
-fn read_some(
-    registers: Registers,
-    body: &[u8],
-    output: &mut [i16],
-    at: usize,
-    size: usize,
-) -> Registers
-    requires { ⌜ (size ≤ 512) × (at + size ≤ length (now body)) × (at / 2 + size / 2 ≤ length (now output)) ⌝ }
-    ensures { λ r. ⌜ (r ≡ skipping registers size)
-        × (now (output .exit) ≡ placed (now (output .entry)) (at / 2) (wordsOf (enciphered (keystream (state registers)) (take size (drop at (now (body .entry))))))) ⌝ }
+// The bytes from `at` behind the last chunk, deciphered and read as samples to their place.
+fn read_rest(registers: Registers, body: &[u8], output: &mut [i16], at: usize, size: usize)
+    requires { ⌜ (size ≤ 16) × (at + size ≤ length (now body)) × (at / 2 + size / 2 ≤ length (now output)) ⌝ }
+    ensures { λ _. ⌜ now (output .exit) ≡ placed (now (output .entry)) (at / 2) (wordsOf (enciphered (keystream (state registers)) (take size (drop at (now (body .entry)))))) ⌝ }
 {
     let mut chunk = blank();
     let end = at + size;
     let answer = registers.encipher(&body[at..end], &mut chunk);
     let place = at / 2;
     samples::read_words(&chunk[..size], &mut output[place..]);
-    answer.next
-}
-
-// So many bytes as a chunk takes of what is left.
-fn chunk_of(left: usize) -> usize
-    ensures { λ r. ⌜ r ≡ min left 512 ⌝ }
-{
-    if left < CHUNK { left } else { CHUNK }
 }
 
 // A body of two bytes for each sample, deciphered and read, chunk by chunk.
@@ -235,13 +252,14 @@ fn read_samples(start: Registers, body: &[u8], samples: usize, output: &mut [i16
     requires { ⌜ (length (now body) ≡ 2 * samples) × (samples ≤ length (now output)) ⌝ }
     ensures { λ _. ⌜ now (output .exit) ≡ placed (now (output .entry)) 0 (wordsOf (enciphered (keystream (state start)) (now (body .entry)))) ⌝ }
 {
+    let n = body.len();
     let mut registers = start;
     let mut at = 0;
-    while at < body.len() {
-        let size = chunk_of(body.len() - at);
-        registers = read_some(registers, body, output, at, size);
-        at += size;
+    while at + CHUNK <= n {
+        registers = read_chunk(registers, body, output, at);
+        at += CHUNK;
     }
+    read_rest(registers, body, output, at, n - at);
 }
 
 // Opens a pack: writes its samples to the front of the output, and answers what the file holds and where.

@@ -16,7 +16,8 @@ use Rattle.pack.specs.Layout.{Parts, Within, loopsGood, fours, row, layo
 use Rattle.pack.specs.Places.{byteAt, foursAt, nameCount, keyPlace, keyNumber, valuePlace, samplePlace, sampleCount, bodyPlace, loopPlace, loopCount, partsOf}
 use Rattle.pack.specs.Suite.{Suite}
 use Rattle.pack.proofs.Order.{NamePassed, KeyPassed, SamplePassed, LoopPassed, FilePassed, file-passed}
-use Rattle.pack.proofs.Runs.{OfBytes, cut-run, cut-byte, length-run, four-digits, length-foursAt, fours-read, below-enciphered, words-fit}
+use Rattle.octets.proofs.Runs.{length-slice}
+use Rattle.pack.proofs.Runs.{OfBytes, cut-run, cut-byte, four-digits, length-foursAt, fours-read, below-enciphered, words-fit}
 use Rattle.samples.proofs.Laws.{length-words, bytes-of-words}
 use Rattle.samples.specs.Words.{wordsOf, bytesOfAll}
 
@@ -25,7 +26,7 @@ use Rattle.samples.specs.Words.{wordsOf, bytesOfAll}
 name-again : (file : List ℕ) → NamePassed file
     → (length (slice file 1 (nameCount file)) ∷ slice file 1 (nameCount file)) ++ drop (1 + nameCount file) file ≡ file
 name-again file p =
-    ap₂ (λ (n : ℕ) (l : List ℕ). n ∷ l) (length-run file 1 (nameCount file) (p .body)) (cut-run file 1 (nameCount file))
+    ap₂ (λ (n : ℕ) (l : List ℕ). n ∷ l) (length-slice file 1 (nameCount file) (p .body)) (cut-run file 1 (nameCount file))
     ∙ cut-byte file 0 (p .there)
 
 key-again : (suite : Suite) (file : List ℕ) (at : ℕ) → KeyPassed suite file at
@@ -66,7 +67,7 @@ sample-again file at k h b p =
     let n : ℕ = number 256 (slice file at 4) in
     let body : List ℕ = slice file (at + 4) (2 * n) in
     let rest : List ℕ = drop (at + 4 + 2 * n) file in
-    let size : length body ≡ 2 * n = length-run file (at + 4) (2 * n) (p .body) in
+    let size : length body ≡ 2 * n = length-slice file (at + 4) (2 * n) (p .body) in
     let front : digits 256 4 (length (samplesIn k file at)) ≡ slice file at 4 =
     ap (digits 256 4) (counted n k body size)
     ∙ four-digits (drop at file) (simp length-drop (omega (arith, p .there))) (below-drop at file b) in
@@ -105,7 +106,7 @@ pub samples-counted : (suite : Suite) (ring : List (List ℕ)) (file : List ℕ)
 unfolding partsOf
 samples-counted suite ring file p =
     counted (sampleCount suite file) (streamIn suite ring file) (slice file (bodyPlace suite file) (2 * sampleCount suite file))
-    (length-run file (bodyPlace suite file) (2 * sampleCount suite file) (p .body))
+    (length-slice file (bodyPlace suite file) (2 * sampleCount suite file) (p .body))
 
 laid-again : (suite : Suite) (ring : List (List ℕ)) → OfBytes suite → (file : List ℕ) → Below 256 file → FilePassed suite file
     → layout suite ring (partsOf suite ring file) ≡ file
@@ -125,10 +126,10 @@ unfolding partsOf
 parts-within suite ring file b p =
     let counted : length (partsOf suite ring file .samples) ≡ sampleCount suite file = samples-counted suite ring file (p .sample) in
     record {
-      nameCount = omega (arith, length-run file 1 (nameCount file) (p .name .body), p .name .limit);
+      nameCount = omega (arith, length-slice file 1 (nameCount file) (p .name .body), p .name .limit);
       nameBytes = p .name .good;
       keyNumber = p .key .limit;
-      valueCount = length-run file (valuePlace file) (suite .valueBytes) (p .key .body);
+      valueCount = length-slice file (valuePlace file) (suite .valueBytes) (p .key .body);
       valueBytes = below-slice file (valuePlace file) (suite .valueBytes) b;
       sampleCount = omega (arith, p .sample .limit);
       sampleBits = words-fit (enciphered (streamIn suite ring file) (slice file (bodyPlace suite file) (2 * sampleCount suite file)));

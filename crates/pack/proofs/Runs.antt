@@ -34,9 +34,6 @@ cut-run file at n = ap (λ (l : List ℕ). slice file at n ++ l) (sym (drop-drop
 pub cut-byte : (file : List ℕ) (at : ℕ) → at + 1 ≤ length file → byteAt file at ∷ drop (at + 1) file ≡ drop at file
 cut-byte file at h = rw (add-one at) (sym (drop-cons file at 0 (omega arith)))
 
-pub length-run : (file : List ℕ) (at n : ℕ) → at + n ≤ length file → length (slice file at n) ≡ n
-length-run file at n h = length-take-le n (drop at file) (simp length-drop (omega arith))
-
 -- ---- numbers of four bytes
 
 -- four bytes are the digits of their number

@@ -2,15 +2,25 @@
 -- Assumes nothing.
 use Prim.Native.Nat.{ℕ}
 use mathlib.Core.Bool.{cond}
-use mathlib.Core.List.{List}
+use mathlib.Core.List.{List, [], _∷_}
 use lib.Dec.{eqb, ltb}
-use lib.ListN.{length}
+use lib.ListN.{length, replicate}
+use Rattle.octets.specs.Digits.{slice}
 use Rattle.octets.specs.Refusals.{accepted, badValue, badKeyNumber}
+use Rattle.octets.specs.Stream.{put}
 use Rattle.pack.specs.Layout.{row}
 use Rattle.trivium.specs.Calls.{refusedMaking}
 use Rattle.trivium.specs.Record.{packed}
 use Rattle.trivium.specs.Registers.{started}
 use Rattle.trivium.specs.declared.Made.{Made}
+
+-- a key of a ring that is lent as bytes: ten of them from `at`, zeros where there are none
+abbrev pub keyAt : List ℕ → ℕ → List ℕ
+keyAt bytes at = put (replicate 10 0) 0 (slice bytes at 10)
+
+-- the ring: its four keys stand one after the other
+unfoldable pub ringOf : List ℕ → List (List ℕ)
+ringOf bytes = keyAt bytes 0 ∷ keyAt bytes 10 ∷ keyAt bytes 20 ∷ keyAt bytes 30 ∷ []
 
 -- a cipher under a key of the ring, which has ten bytes
 unfoldable pub madeUnder : List ℕ → List ℕ → Made

@@ -1,6 +1,6 @@
 ghost use mathlib.Core.Path.{_≡_};
 ghost use Rattle.pack.specs.Layout.{nameGood};
-ghost use Rattle.pack.specs.Ring.{making, madeUnder};
+ghost use Rattle.pack.specs.Ring.{keyAt, ringOf, making, madeUnder};
 use trivium::Made;
 use trivium::Registers;
 
@@ -40,6 +40,27 @@ pub fn name_good(name: &[u8]) -> bool
         i += 1;
     }
     true
+}
+
+// One key of a ring that is lent as bytes.
+fn key_at(bytes: &[u8], at: usize) -> [u8; 10]
+    ensures { λ r. ⌜ r ≡ keyAt (now (bytes .entry)) at ⌝ }
+{
+    let mut key = [0; 10];
+    octets::copy(&mut key, 0, octets::part(bytes, at, 10));
+    key
+}
+
+// A ring of four keys from bytes, where they stand one after the other.
+pub fn ring_of(bytes: &[u8]) -> [[u8; 10]; 4]
+    ensures { λ r. ⌜ r ≡ ringOf (now (bytes .entry)) ⌝ }
+{
+    [
+        key_at(bytes, 0),
+        key_at(bytes, 10),
+        key_at(bytes, 20),
+        key_at(bytes, 30),
+    ]
 }
 
 // A cipher under the key of the ring that a number names: the row's making, or 14 for a number over 3.

@@ -29,7 +29,7 @@ const VALUE: [u8; 10] = *b"some value";
 const NAME: [u8; 32] = *b"Name of 32 bytes, from ' ' to ~.";
 
 // The last is the most that a file can have.
-const COUNTS: [usize; 14] = [0, 1, 2, 3, 4, 7, 255, 256, 257, 511, 512, 513, 1000, 16384];
+const COUNTS: [usize; 14] = [0, 1, 2, 3, 4, 7, 8, 9, 15, 16, 17, 513, 1000, 16384];
 
 // What a sound begins with: both ends of the range and both sides of 0.
 const EDGES: [i16; 4] = [-32768, -1, 0, 32767];

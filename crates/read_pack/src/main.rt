@@ -1,39 +1,10 @@
 // Reads 40 bytes of keys and then a pack from standard input, and prints what the pack holds.
-ghost use Prim.Native.Nat.{_+_, _≤_};
+ghost use Prim.Native.Nat.{_≤_};
 ghost use mathlib.Core.Path.{_≡_};
 ghost use lib.ListN.{length};
 use pack::Opened;
 
 const KEY_BYTES: usize = 40;
-
-// Ten bytes of the keys from `at`.
-fn key_at(keys: &[u8], at: usize) -> [u8; 10]
-    requires { ⌜ at + 10 ≤ length (now keys) ⌝ }
-{
-    [
-        keys[at],
-        keys[at + 1],
-        keys[at + 2],
-        keys[at + 3],
-        keys[at + 4],
-        keys[at + 5],
-        keys[at + 6],
-        keys[at + 7],
-        keys[at + 8],
-        keys[at + 9],
-    ]
-}
-
-fn ring_of(keys: &[u8]) -> [[u8; 10]; 4]
-    requires { ⌜ 40 ≤ length (now keys) ⌝ }
-{
-    [
-        key_at(keys, 0),
-        key_at(keys, 10),
-        key_at(keys, 20),
-        key_at(keys, 30),
-    ]
-}
 
 // Room for the samples of the longest pack.
 fn silence() -> [i16; 16384]
@@ -64,7 +35,7 @@ fn show(input: &[u8])
 {
     let file = &input[KEY_BYTES..];
     let mut samples = silence();
-    let opened = opener::open(file, ring_of(input), &mut samples);
+    let opened = opener::open(file, pack::ring_of(input), &mut samples);
     let refusal = opened.refusal;
     if refusal == 0 {
         print_pack(opened, file);

@@ -8,10 +8,10 @@ use native.Mathlib.Numerals.{add-one}
 use native.Mathlib.Omega.{arith}
 use borrow.Author.Tests.{le-leb, ne-eqb}
 use lib.IntN.{ℤ}
-use lib.ListN.{length, getD, set, take, drop, length-append, length-take, length-drop}
+use lib.ListN.{length, getD, set, take, drop, length-append, length-drop}
 use lib.Seq.{drop-cons, take-add, take-all, length-take-le, sets-eq}
 use Rattle.octets.proofs.Numbers.{length-digits}
-use Rattle.octets.proofs.Streams.{length-enciphered, enciphered-append, placed-append}
+use Rattle.octets.proofs.Streams.{length-placed, length-enciphered, enciphered-append, placed-append}
 use Rattle.octets.specs.Digits.{digits}
 use Rattle.octets.specs.Outcome.{outcome}
 use Rattle.octets.specs.Stream.{Keystream, from, enciphered, placed, numberPlaced}
@@ -29,10 +29,6 @@ use Rattle.trivium.specs.Record.{state, packed}
 use Rattle.trivium.specs.Registers.{started}
 
 -- ---- runs in a buffer
-
-pub length-placed : (d : List ℕ) (at : ℕ) (run : List ℕ) → at + length run ≤ length d → length (placed d at run) ≡ length d
-unfolding placed
-length-placed d at run h = simp (length-append, length-take, length-drop) (omega arith)
 
 pub placed-byte : (d : List ℕ) (at x : ℕ) → at < length d → set d at x ≡ placed d at (x ∷ [])
 unfolding placed

@@ -2,7 +2,7 @@ ghost use mathlib.Core.List.{_∷_, _++_};
 ghost use mathlib.Core.Path.{_≡_};
 ghost use Prim.Native.Nat.{_+_, _*_, _/_, _%_, _<_, _≤_};
 ghost use lib.ListN.{length, take, drop};
-ghost use Rattle.octets.specs.Digits.{digits};
+ghost use Rattle.octets.specs.Digits.{number, digits};
 ghost use Rattle.octets.specs.Outcome.{outcome};
 ghost use Rattle.octets.specs.Stream.{enciphered, placed};
 ghost use Rattle.pack.specs.Calls.{sealing};
@@ -34,11 +34,11 @@ const BAD_LOOP: u8 = 17;
 
 const NO_ROOM: u8 = 19;
 
-// Room for a chunk. Its length is all that anybody needs to know of it.
-fn blank() -> [u8; 512]
-    ensures { λ r. ⌜ 512 ≡ length r ⌝ }
+// Room for the bytes of the samples behind the last chunk. Its length is all that anybody needs to know of it.
+fn blank() -> [u8; 16]
+    ensures { λ r. ⌜ 16 ≡ length r ⌝ }
 {
-    [0; 512]
+    [0; 16]
 }
 
 // Whether each loop of an even run is in rule.
@@ -124,25 +124,72 @@ fn write_key(output: &mut [u8], at: usize, key: u8, value: &[u8])
     octets::copy(output, at + 2, value);
 }
 
-// So many samples from `from`, as bytes and enciphered, to their place.
-fn write_some(
+// The word that the bytes of four samples from `from` make.
+fn four_bits(samples: &[i16], from: usize) -> u64
+    requires { ⌜ from + 4 ≤ length (now samples) ⌝ }
+    ensures { λ r. ⌜ r ≡ number 256 (bytesOfAll (take 4 (drop from (now (samples .entry))))) ⌝ }
+{
+    let first = samples::bits(samples[from]) as u64;
+    let second = samples::bits(samples[from + 1]) as u64;
+    let third = samples::bits(samples[from + 2]) as u64;
+    let fourth = samples::bits(samples[from + 3]) as u64;
+    first * 281474976710656 + second * 4294967296 + third * 65536 + fourth
+}
+
+// The eight bytes of a word, at their place. `octets::write_number` would look for room again at each turn of the loop.
+fn put_word(output: &mut [u8], at: usize, word: u64)
+    requires { ⌜ at + 8 ≤ length (now output) ⌝ }
+    ensures { λ _. ⌜ now (output .exit) ≡ placed (now (output .entry)) at (digits 256 8 word) ⌝ }
+{
+    output[at] = ((word >> 56) % 256) as u8;
+    output[at + 1] = ((word >> 48) % 256) as u8;
+    output[at + 2] = ((word >> 40) % 256) as u8;
+    output[at + 3] = ((word >> 32) % 256) as u8;
+    output[at + 4] = ((word >> 24) % 256) as u8;
+    output[at + 5] = ((word >> 16) % 256) as u8;
+    output[at + 6] = ((word >> 8) % 256) as u8;
+    output[at + 7] = (word % 256) as u8;
+}
+
+// Eight samples from `from`, as bytes and enciphered, to their place, by two strides of the cipher: no byte is stored
+// between. The samples are read before each stride, while the machine's registers are free.
+fn write_chunk(
+    registers: Registers,
+    samples: &[i16],
+    output: &mut [u8],
+    from: usize,
+    at: usize,
+) -> Registers
+    requires { ⌜ (from + 8 ≤ length (now samples)) × (at + 16 ≤ length (now output)) ⌝ }
+    ensures { λ r. ⌜ (r ≡ skipping registers 16)
+        × (now (output .exit) ≡ placed (now (output .entry)) at (enciphered (keystream (state registers)) (bytesOfAll (take 8 (drop from (now (samples .entry))))))) ⌝ }
+{
+    let first = four_bits(samples, from);
+    let one = registers.stride();
+    put_word(output, at, first ^ one.word);
+    let second = four_bits(samples, from + 4);
+    let two = one.next.stride();
+    put_word(output, at + 8, second ^ two.word);
+    two.next
+}
+
+// The samples from `from` behind the last chunk, as bytes and enciphered, to their place.
+fn write_rest(
     registers: Registers,
     samples: &[i16],
     output: &mut [u8],
     from: usize,
     size: usize,
     at: usize,
-) -> Registers
-    requires { ⌜ (size ≤ 256) × (from + size ≤ length (now samples)) × (at + 2 * size ≤ length (now output)) ⌝ }
-    ensures { λ r. ⌜ (r ≡ skipping registers (2 * size))
-        × (now (output .exit) ≡ placed (now (output .entry)) at (enciphered (keystream (state registers)) (bytesOfAll (take size (drop from (now (samples .entry))))))) ⌝ }
+)
+    requires { ⌜ (size ≤ 8) × (from + size ≤ length (now samples)) × (at + 2 * size ≤ length (now output)) ⌝ }
+    ensures { λ _. ⌜ now (output .exit) ≡ placed (now (output .entry)) at (enciphered (keystream (state registers)) (bytesOfAll (take size (drop from (now (samples .entry)))))) ⌝ }
 {
     let mut chunk = blank();
     let end = from + size;
     samples::write_words(&samples[from..end], &mut chunk);
     let bytes = 2 * size;
-    let answer = registers.encipher(&chunk[..bytes], &mut output[at..]);
-    answer.next
+    registers.encipher(&chunk[..bytes], &mut output[at..]);
 }
 
 // All samples, as bytes and enciphered, to their place.
@@ -153,11 +200,11 @@ fn write_samples(registers: Registers, samples: &[i16], output: &mut [u8], at: u
     let n = samples.len();
     let mut next = registers;
     let mut done = 0;
-    while 256 <= n - done {
-        next = write_some(next, samples, output, done, 256, at + 2 * done);
-        done += 256;
+    while done + 8 <= n {
+        next = write_chunk(next, samples, output, done, at + 2 * done);
+        done += 8;
     }
-    write_some(next, samples, output, done, n - done, at + 2 * done);
+    write_rest(next, samples, output, done, n - done, at + 2 * done);
 }
 
 // A loop's start and end, at its place.

@@ -10,13 +10,14 @@ use lib.ListN.{length}
 use lib.Bits.{xor-lt, and-lt}
 use lib.Pow.{pow-pos, shr-lt, shr-shr, mod-mod-pow, low}
 use Rattle.octets.specs.Digits.{number, numberAfter}
-use Rattle.octets.specs.Stream.{Keystream, from}
+use Rattle.octets.specs.Stream.{from}
 use Rattle.octets.proofs.Numbers.{Below, after-append}
-use Rattle.trivium.specs.Calls.{skipping}
+use Rattle.trivium.specs.Calls.{striding, skipping}
 use Rattle.trivium.specs.Registers.{State, loaded, started, newA, newB, newC, moved, next, steps, outputBit}
 use Rattle.trivium.specs.Keystream.{bits}
 use Rattle.trivium.specs.Record.{state, packed}
 use Rattle.trivium.specs.declared.Registers.{Registers}
+use Rattle.trivium.specs.declared.Strode.{Strode}
 use Rattle.trivium.proofs.Words.{joined-apart, grown, run, rule, sum, newWord, new-bit, grown-more, tap-grown, output-by, sum-shr}
 
 pub steps-add : (n m : ℕ) (s : State) → steps (n + m) s ≡ steps m (steps n s)
@@ -260,3 +261,8 @@ skip-add r n m =
 pub state-started : (key iv : List ℕ) → state (packed (started key iv)) ≡ started key iv
 unfolding steps
 state-started key iv = state-packed (started key iv) (held-steps 1151 (next (loaded key iv)) (held-next (loaded key iv)))
+
+-- a stride moves on by eight bytes
+pub stride-skips : (r : Registers) (strode : Strode) → strode ≡ striding r → strode .next ≡ skipping r 8
+unfolding striding skipping
+stride-skips r strode e = ap (λ (x : Strode). x .next) e

@@ -6,7 +6,7 @@ use native.Mathlib.Nat.{add-assoc, add-comm, add-mul, mul-assoc, mul-comm, pow-s
 use native.Mathlib.Numerals.{add-one}
 use native.Mathlib.Omega.{arith}
 use lib.Bits.{bitXor, bitAnd, bitOr, and-step, and-shr, xor-shr}
-use lib.Pow.{pow-pos, pow-add, field, mod-mod-pow, shr-shr, shr-lt, high, low, split}
+use lib.Pow.{pow-pos, pow-add, field, mod-mod-pow, mod-pow-add, shr-shr, shr-lt, high, low, split}
 use Rattle.octets.proofs.Bits.{xor-low}
 use Rattle.octets.proofs.Shifts.{moved-up, multiple-mod}
 use Rattle.trivium.specs.Registers.{State, _⟨i-_⟩, newBit, moved, outputBit}
@@ -257,6 +257,19 @@ module _ (p upper lower v : ℕ) (small : p ≤ 64) (hl : lower < 2 ^ 64) (hv : 
       ∙ sym (mod-mod-pow (upper * 2 ^ 64 + lower) (64 - p) p)
       ∙ ap (λ (q : ℕ). (upper * 2 ^ 64 + lower) % 2 ^ q % 2 ^ p) wide
       ∙ ap (λ (x : ℕ). x % 2 ^ p) (low upper 64 hl)
+
+  -- and the spare bits above it count for nothing
+  pub joined-strode : joined (p + 64) lower v ≡ grown (p + 64) (joined (p + 64) upper lower) 64 v
+  joined-strode =
+      let x : ℕ = grown (p + 64) (joined (p + 64) upper lower) 64 v in
+      let newest : x % 2 ^ 64 ≡ v =
+      ap (λ (y : ℕ). y % 2 ^ 64) (grown-mod (p + 64) (upper * 2 ^ 64 + lower) 64 v)
+      ∙ mod-mod-pow ((upper * 2 ^ 64 + lower) * 2 ^ 64 + v) p 64
+      ∙ low (upper * 2 ^ 64 + lower) 64 hv in
+      mod-pow-add (lower * 2 ^ 64 + v) p 64
+      ∙ ap₂ (λ (u l : ℕ). u % 2 ^ p * 2 ^ 64 + l) (high lower 64 hv) (low lower 64 hv)
+      ∙ sym (ap₂ (λ (u l : ℕ). u * 2 ^ 64 + l) upper-strode newest)
+      ∙ split x 64
 
 -- ---- nothing new: spare bits go, and what was packed is there again
 module _ (p upper lower : ℕ) (small : p ≤ 64) (hl : lower < 2 ^ 64) where

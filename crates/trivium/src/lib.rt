@@ -1,9 +1,10 @@
 ghost use mathlib.Core.Path.{_≡_};
 ghost use Prim.Native.Nat.{_+_, _*_, _%_, _^_, _<_, _≤_};
+ghost use lib.Bits.{bitXor};
 ghost use lib.ListN.{length, take, drop};
-ghost use Rattle.octets.specs.Digits.{number};
+ghost use Rattle.octets.specs.Digits.{number, numberAt};
 ghost use Rattle.octets.specs.Outcome.{outcome};
-ghost use Rattle.octets.specs.Stream.{enciphered, placed};
+ghost use Rattle.octets.specs.Stream.{enciphered, placed, numberPlaced};
 ghost use Rattle.trivium.specs.Calls.{refusedMaking, making, stepping, striding, skipping, enciphering};
 ghost use Rattle.trivium.specs.Keystream.{bits, keystream};
 ghost use Rattle.trivium.specs.Record.{state, packed};
@@ -102,6 +103,14 @@ fn refused_making(number: u8) -> Made
             c0: 0,
         },
     }
+}
+
+// Eight bytes from `at` under a word of keystream, read and written as one word.
+fn encipher_word(input: &[u8], output: &mut [u8], at: usize, word: u64)
+    ensures { λ _. ⌜ now (output .exit) ≡ numberPlaced (now (output .entry)) at 8 (bitXor (numberAt (now (input .entry)) at 8) word) ⌝ }
+{
+    let read = octets::number_at(input, at, 8);
+    octets::write_number(output, at, 8, read ^ word);
 }
 
 impl Registers {
@@ -214,6 +223,27 @@ impl Registers {
         }
     }
 
+    // The same, but the spare bits are left as they come. A loop of these has three words fewer to clear at each turn.
+    fn stride_untrimmed(self) -> Strode
+        ensures { λ r. ⌜ (r .word ≡ number 2 (bits 64 (state self))) × (state (r .next) ≡ steps 64 (state self)) ⌝ }
+    {
+        let a0 = self.a0;
+        let b0 = self.b0;
+        let c0 = self.c0;
+        let ahead = self.ahead();
+        Strode {
+            word: ahead.z,
+            next: Registers {
+                a1: a0,
+                a0: ahead.a,
+                b1: b0,
+                b0: ahead.b,
+                c1: c0,
+                c0: ahead.c,
+            },
+        }
+    }
+
     // The same registers, with every spare bit zero.
     fn trimmed(self) -> Registers
         ensures { λ r. ⌜ r ≡ packed (state self) ⌝ }
@@ -298,6 +328,32 @@ impl Registers {
         strode.next
     }
 
+    // Sixteen bytes from `at`. After two strides each word of the registers is back in its place: a loop of these moves none.
+    fn encipher_sixteen(self, input: &[u8], output: &mut [u8], at: usize) -> Registers
+        requires { ⌜ (at + 16 ≤ length (now input)) × (at + 16 ≤ length (now output)) ⌝ }
+        ensures { λ r. ⌜ (state r ≡ steps 128 (state self))
+            × (now (output .exit) ≡ placed (now (output .entry)) at (enciphered (keystream (state self)) (take 16 (drop at (now (input .entry)))))) ⌝ }
+    {
+        let one = self.stride_untrimmed();
+        encipher_word(input, output, at, one.word);
+        let two = one.next.stride_untrimmed();
+        encipher_word(input, output, at + 8, two.word);
+        two.next
+    }
+
+    // What is left behind the sixteens.
+    fn encipher_rest(self, input: &[u8], output: &mut [u8], at: usize, bytes: usize) -> Registers
+        requires { ⌜ (bytes ≤ 16) × (at + bytes ≤ length (now input)) × (at + bytes ≤ length (now output)) ⌝ }
+        ensures { λ r. ⌜ (r ≡ skipping self bytes)
+            × (now (output .exit) ≡ placed (now (output .entry)) at (enciphered (keystream (state self)) (take bytes (drop at (now (input .entry)))))) ⌝ }
+    {
+        if bytes <= 8 {
+            return self.encipher_some(input, output, at, bytes);
+        }
+        let next = self.encipher_some(input, output, at, 8);
+        next.encipher_some(input, output, at + 8, bytes - 8)
+    }
+
     // The input under the keystream, to the front of the output.
     pub fn encipher(self, input: &[u8], output: &mut [u8]) -> Enciphered
         ensures { λ r. ⌜ outcome r (now (output .exit)) ≡ enciphering self (now (input .entry)) (now (output .entry)) ⌝ }
@@ -311,13 +367,13 @@ impl Registers {
         }
         let mut registers = self;
         let mut at = 0;
-        while 8 <= n - at {
-            registers = registers.encipher_some(input, output, at, 8);
-            at += 8;
+        while at + 16 <= n {
+            registers = registers.encipher_sixteen(input, output, at);
+            at += 16;
         }
         Enciphered {
             refusal: ACCEPTED,
-            next: registers.encipher_some(input, output, at, n - at),
+            next: registers.encipher_rest(input, output, at, n - at),
         }
     }
 }

@@ -42,9 +42,19 @@ read-all s at n count e = ap (λ (l : List ℕ). number 256 l % 2 ^ 64) (take-th
 there-requires : tie.Need-there-requires Inv-loop μ-loop
 there-requires c κs = tt
 
+eight-at-requires : tie.Need-eight-at-requires Inv-loop μ-loop
+eight-at-requires c κs = omega arith
+
+returns : tie.Need-returns Inv-loop μ-loop
+returns c =
+    let t = c .before .before in
+    let p = t .before .before .args in
+    let eight : 8 ≡ min (p .n) (length (p .s .now) - p .at) = omega arith in
+    c .eight-at .ensures ∙ read-all (p .s .now) (p .at) (p .n) 8 eight
+
 loop-holds : tie.Need-loop-holds Inv-loop μ-loop
 unfolding numberAfter
-loop-holds c = (omega arith, c .there .ensures, refl)
+loop-holds c = (omega arith, c .before .there .ensures, refl)
 
 add-value : tie.Need-add-value Inv-loop μ-loop
 add-value c = omega arith
@@ -53,7 +63,7 @@ shared-slice-read-value : tie.Need-shared-slice-read-value Inv-loop μ-loop
 shared-slice-read-value c = omega arith
 
 cast-value : tie.Need-cast-value Inv-loop μ-loop
-cast-value c = omega (arith, c .shared-slice-known2 .given (c .before .before .before .before .before .args .at + c .before .before .loop .i))
+cast-value c = omega (arith, c .shared-slice-known2 .given (c .before .before .before .before .before .before .args .at + c .before .before .loop .i))
 
 add-i : tie.Need-add-i Inv-loop μ-loop
 add-i c = omega arith
@@ -63,7 +73,7 @@ loop-less c = omega arith
 
 loop-again : tie.Need-loop-again Inv-loop μ-loop
 loop-again c =
-    let p = c .before .before .before .before .before .args in
+    let p = c .before .before .before .before .before .before .args in
     let l = c .before .before .loop in (
       omega arith,
       l .inv .1,
@@ -71,12 +81,12 @@ loop-again c =
           ∙ read-more (p .s .now) (p .at) (l .i) (omega arith) (omega (arith, c .shared-slice-known2 .given (p .at + l .i))),
     )
 
-returns : tie.Need-returns Inv-loop μ-loop
-returns c =
-    let p = c .before .before .before .before .args in
+returns-2 : tie.Need-returns-2 Inv-loop μ-loop
+returns-2 c =
+    let p = c .before .before .before .before .before .args in
     let l = c .before .loop in
-    let last : l .i ≡ c .before .before .there .result = omega arith in
-    l .inv .2 ∙ ap (numberAt (p .s .now) (p .at)) last ∙ read-all (p .s .now) (p .at) (p .n) (c .before .before .there .result) (l .inv .1)
+    let last : l .i ≡ c .before .before .before .there .result = omega arith in
+    l .inv .2 ∙ ap (numberAt (p .s .now) (p .at)) last ∙ read-all (p .s .now) (p .at) (p .n) (c .before .before .before .there .result) (l .inv .1)
 
 pub number-at-spec : {M : Type 1} → statement M
 number-at-spec =
@@ -85,6 +95,8 @@ number-at-spec =
     Inv-loop
     μ-loop
     there-requires
+    eight-at-requires
+    returns
     loop-holds
     add-value
     shared-slice-read-value
@@ -92,4 +104,4 @@ number-at-spec =
     add-i
     loop-less
     loop-again
-    returns)
+    returns-2)

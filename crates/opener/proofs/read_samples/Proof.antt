@@ -14,7 +14,6 @@ use Rattle.samples.proofs.Laws.{words-append, words-nothing, length-words}
 use Rattle.trivium.specs.Keystream.{keystream}
 use Rattle.trivium.specs.Record.{state}
 use Rattle.trivium.specs.Registers.{steps}
-use Rattle.trivium.specs.declared.Registers.{Registers}
 use Rattle.trivium.proofs.Bytes.{keystream-from}
 use Rattle.trivium.proofs.Steps.{state-skip, steps-none, steps-bytes}
 use Rattle.opener.proofs.read_samples.Statement.{statement}
@@ -25,12 +24,12 @@ abbrev front : Keystream → List ℕ → List ℤ → ℕ → List ℤ
 front k body output at = placed output 0 (wordsOf (enciphered k (take at body)))
 
 abbrev Inv-loop : tie.InvT-loop
-Inv-loop body samples output₀ registers₀ at₀ output registers at =
+Inv-loop body samples output₀ n registers₀ at₀ output registers at =
     (at ≤ length body) × (at % 2 ≡ 0) × (length output ≡ length output₀) × (state registers ≡ steps (8 * at) (state registers₀))
     × (output ≡ front (keystream (state registers₀)) body output₀ at)
 
 abbrev μ-loop : tie.MeasureT-loop
-μ-loop body samples output₀ registers₀ at₀ output registers at = length body - at
+μ-loop body samples output₀ n registers₀ at₀ output registers at = length body - at
 
 -- so many bytes further, an even number before them
 further : (k : Keystream) (body : List ℕ) (output : List ℤ) (at size : ℕ) → at % 2 ≡ 0 → at + size ≤ length body → (at + size) / 2 ≤ length output
@@ -64,14 +63,11 @@ loop-holds c =
       sym (ap (λ (l : List ℕ). placed (p .output .now) 0 (wordsOf l)) (enciphered-nothing (keystream (state (p .start)))) ∙ ap (placed (p .output .now) 0) words-nothing ∙ placed-nothing (p .output .now) 0),
     )
 
-sub-chunk-of : tie.Need-sub-chunk-of Inv-loop μ-loop
-sub-chunk-of c = omega arith
+add-loop : tie.Need-add-loop Inv-loop μ-loop
+add-loop c = omega arith
 
-chunk-of-requires : tie.Need-chunk-of-requires Inv-loop μ-loop
-chunk-of-requires c κs = tt
-
-read-some-requires : tie.Need-read-some-requires Inv-loop μ-loop
-read-some-requires c κs = omega arith
+read-chunk-requires : tie.Need-read-chunk-requires Inv-loop μ-loop
+read-chunk-requires c κs = omega arith
 
 add-at : tie.Need-add-at Inv-loop μ-loop
 add-at c = omega arith
@@ -82,28 +78,42 @@ loop-less c = omega arith
 loop-again : tie.Need-loop-again Inv-loop μ-loop
 loop-again c =
     let m = c .before in
-    let l = m .before .before .before .before .loop in
-    let p = m .before .before .before .before .before .before .args in
-    let size : ℕ = m .before .before .chunk-of .result in
+    let l = m .before .before .before .loop in
+    let p = m .before .before .before .before .before .args in
     let k : Keystream = keystream (state (p .start)) in (
       omega arith,
       omega arith,
-      m .read-some .kept .1 .1 .0 ∙ l .inv .2,
-      ap state (m .read-some .ensures .0) ∙ state-skip (l .registers) size ∙ ap (steps (8 * size)) (l .inv .3) ∙ sym (steps-bytes (l .at) size (state (p .start))),
-      m .read-some .ensures .1
-          ∙ ap₂ (λ (d : List ℤ) (j : Keystream). placed d (l .at / 2) (wordsOf (enciphered j (take size (drop (l .at) (p .body .now)))))) (l .inv .4)
+      m .read-chunk .kept .1 .1 .0 ∙ l .inv .2,
+      ap state (m .read-chunk .ensures .0) ∙ state-skip (l .registers) 16 ∙ ap (steps 128) (l .inv .3) ∙ sym (steps-bytes (l .at) 16 (state (p .start))),
+      m .read-chunk .ensures .1
+          ∙ ap₂ (λ (d : List ℤ) (j : Keystream). placed d (l .at / 2) (wordsOf (enciphered j (take 16 (drop (l .at) (p .body .now)))))) (l .inv .4)
           (ap keystream (l .inv .3) ∙ sym (keystream-from (l .at) (state (p .start))))
-          ∙ further k (p .body .now) (p .output .now) (l .at) size (l .inv .1) (omega arith) (omega arith),
+          ∙ further k (p .body .now) (p .output .now) (l .at) 16 (l .inv .1) (omega arith) (omega arith),
     )
 
+sub-read-rest : tie.Need-sub-read-rest Inv-loop μ-loop
+sub-read-rest c = omega arith
+
+read-rest-requires : tie.Need-read-rest-requires Inv-loop μ-loop
+read-rest-requires c κs = omega arith
+
 same-length : tie.Need-same-length Inv-loop μ-loop
-same-length c = c .before .loop .inv .2
+same-length c = c .before .read-rest .kept .1 .1 .0 ∙ c .before .before .before .before .loop .inv .2
 
 returns : tie.Need-returns Inv-loop μ-loop
 returns c =
-    let l = c .before .loop in
-    let p = c .before .before .before .args in
-    l .inv .4 ∙ ap (λ (bytes : List ℕ). placed (p .output .now) 0 (wordsOf (enciphered (keystream (state (p .start))) bytes))) (take-all (l .at) (p .body .now) (omega arith))
+    let m = c .before in
+    let l = m .before .before .before .loop in
+    let p = m .before .before .before .before .before .args in
+    let n : ℕ = length (p .body .now) in
+    let k : Keystream = keystream (state (p .start)) in
+    let whole : l .at + (n - l .at) ≡ n = omega arith in
+    m .read-rest .ensures
+    ∙ ap₂ (λ (d : List ℤ) (j : Keystream). placed d (l .at / 2) (wordsOf (enciphered j (take (n - l .at) (drop (l .at) (p .body .now)))))) (l .inv .4)
+    (ap keystream (l .inv .3) ∙ sym (keystream-from (l .at) (state (p .start))))
+    ∙ further k (p .body .now) (p .output .now) (l .at) (n - l .at) (l .inv .1) (omega arith) (omega arith)
+    ∙ ap (front k (p .body .now) (p .output .now)) whole
+    ∙ ap (λ (bytes : List ℕ). placed (p .output .now) 0 (wordsOf (enciphered k bytes))) (take-all n (p .body .now) (omega arith))
 
 pub read-samples-spec : {M : Type 1} → statement M
 read-samples-spec =
@@ -112,11 +122,12 @@ read-samples-spec =
     Inv-loop
     μ-loop
     loop-holds
-    sub-chunk-of
-    chunk-of-requires
-    read-some-requires
+    add-loop
+    read-chunk-requires
     add-at
     loop-less
     loop-again
+    sub-read-rest
+    read-rest-requires
     same-length
     returns)

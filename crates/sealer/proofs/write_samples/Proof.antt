@@ -57,17 +57,17 @@ loop-holds c =
     let none = nothing (p .registers) (p .samples .now) (p .output .now) (p .at) in
     (omega arith, refl, none .0, none .1)
 
-sub-loop : tie.Need-sub-loop Inv-loop μ-loop
-sub-loop c = omega arith
+add-loop : tie.Need-add-loop Inv-loop μ-loop
+add-loop c = omega arith
 
-mul-write-some : tie.Need-mul-write-some Inv-loop μ-loop
-mul-write-some c = omega arith
+mul-write-chunk : tie.Need-mul-write-chunk Inv-loop μ-loop
+mul-write-chunk c = omega arith
 
-add-write-some : tie.Need-add-write-some Inv-loop μ-loop
-add-write-some c = omega arith
+add-write-chunk : tie.Need-add-write-chunk Inv-loop μ-loop
+add-write-chunk c = omega arith
 
-write-some-requires : tie.Need-write-some-requires Inv-loop μ-loop
-write-some-requires c κs = omega arith
+write-chunk-requires : tie.Need-write-chunk-requires Inv-loop μ-loop
+write-chunk-requires c κs = omega arith
 
 add-done : tie.Need-add-done Inv-loop μ-loop
 add-done c = omega arith
@@ -81,27 +81,27 @@ loop-again c =
     let l = w .before .before .before .loop in
     let p = w .before .before .before .before .before .args in (
       omega arith,
-      w .write-some .kept .1 .1 .0 ∙ l .inv .1,
-      ap state (w .write-some .ensures .0) ∙ state-skip (l .next) 512 ∙ gone (state (p .registers)) (state (l .next)) (l .done) 256 (l .inv .2),
-      w .write-some .ensures .1
-          ∙ ap (λ (d : List ℕ). placed d (p .at + 2 * l .done) (enciphered (keystream (state (l .next))) (bytesOfAll (take 256 (drop (l .done) (p .samples .now)))))) (l .inv .3)
-          ∙ further (p .registers) (l .next) (p .samples .now) (p .output .now) (p .at) (l .done) 256 (omega arith) (omega arith) (l .inv .2),
+      w .write-chunk .kept .1 .1 .0 ∙ l .inv .1,
+      ap state (w .write-chunk .ensures .0) ∙ state-skip (l .next) 16 ∙ gone (state (p .registers)) (state (l .next)) (l .done) 8 (l .inv .2),
+      w .write-chunk .ensures .1
+          ∙ ap (λ (d : List ℕ). placed d (p .at + 2 * l .done) (enciphered (keystream (state (l .next))) (bytesOfAll (take 8 (drop (l .done) (p .samples .now)))))) (l .inv .3)
+          ∙ further (p .registers) (l .next) (p .samples .now) (p .output .now) (p .at) (l .done) 8 (omega arith) (omega arith) (l .inv .2),
     )
 
-sub-write-some : tie.Need-sub-write-some Inv-loop μ-loop
-sub-write-some c = omega arith
+sub-write-rest : tie.Need-sub-write-rest Inv-loop μ-loop
+sub-write-rest c = omega arith
 
-mul-write-some-2 : tie.Need-mul-write-some-2 Inv-loop μ-loop
-mul-write-some-2 c = omega arith
+mul-write-rest : tie.Need-mul-write-rest Inv-loop μ-loop
+mul-write-rest c = omega arith
 
-add-write-some-2 : tie.Need-add-write-some-2 Inv-loop μ-loop
-add-write-some-2 c = omega arith
+add-write-rest : tie.Need-add-write-rest Inv-loop μ-loop
+add-write-rest c = omega arith
 
-write-some-requires-2 : tie.Need-write-some-requires-2 Inv-loop μ-loop
-write-some-requires-2 c κs = omega arith
+write-rest-requires : tie.Need-write-rest-requires Inv-loop μ-loop
+write-rest-requires c κs = omega arith
 
 same-length : tie.Need-same-length Inv-loop μ-loop
-same-length c = c .before .before .write-some2 .kept .1 .1 .0 ∙ c .before .before .before .before .before .loop .inv .1
+same-length c = c .before .before .write-rest .kept .1 .1 .0 ∙ c .before .before .before .before .before .loop .inv .1
 
 returns : tie.Need-returns Inv-loop μ-loop
 returns c =
@@ -110,7 +110,7 @@ returns c =
     let p = w .before .before .before .before .before .args in
     let n : ℕ = length (p .samples .now) in
     let whole : l .done + (n - l .done) ≡ n = omega arith in
-    w .write-some2 .ensures .1
+    w .write-rest .ensures
     ∙ ap (λ (d : List ℕ). placed d (p .at + 2 * l .done) (enciphered (keystream (state (l .next))) (bytesOfAll (take (n - l .done) (drop (l .done) (p .samples .now)))))) (l .inv .3)
     ∙ further (p .registers) (l .next) (p .samples .now) (p .output .now) (p .at) (l .done) (n - l .done) (omega arith) (omega arith) (l .inv .2)
     ∙ ap (written (p .registers) (p .samples .now) (p .output .now) (p .at)) whole
@@ -123,16 +123,16 @@ write-samples-spec =
     Inv-loop
     μ-loop
     loop-holds
-    sub-loop
-    mul-write-some
-    add-write-some
-    write-some-requires
+    add-loop
+    mul-write-chunk
+    add-write-chunk
+    write-chunk-requires
     add-done
     loop-less
     loop-again
-    sub-write-some
-    mul-write-some-2
-    add-write-some-2
-    write-some-requires-2
+    sub-write-rest
+    mul-write-rest
+    add-write-rest
+    write-rest-requires
     same-length
     returns)

@@ -8,7 +8,7 @@ use borrow.Author.Tests.{lt-ltb, le-ltb}
 use lib.ListN.{length, take, drop}
 use lib.Seq.{take-all}
 use Rattle.octets.specs.Outcome.{outcome}
-use Rattle.octets.specs.Stream.{Keystream, from, enciphered, placed}
+use Rattle.octets.specs.Stream.{Keystream, enciphered, placed}
 use Rattle.octets.proofs.Streams.{placed-enciphered, placed-nothing, enciphered-nothing}
 use Rattle.trivium.specs.Calls.{skipping, enciphering}
 use Rattle.trivium.specs.Keystream.{keystream}
@@ -17,7 +17,7 @@ use Rattle.trivium.specs.Registers.{steps}
 use Rattle.trivium.specs.declared.Enciphered.{Enciphered}
 use Rattle.trivium.specs.declared.Registers.{Registers}
 use Rattle.trivium.proofs.Bytes.{keystream-from}
-use Rattle.trivium.proofs.Steps.{state-skip, steps-bytes}
+use Rattle.trivium.proofs.Steps.{steps-bytes}
 use Rattle.trivium.proofs.Registers.encipher.Statement.{statement}
 use Rattle.trivium.proofs.Registers.encipher.Tie as tie
 
@@ -55,11 +55,11 @@ loop-holds c =
     let p = c .before .before .before .args in
     (omega arith, refl, refl, sym (ap (placed (p .output .now) 0) (enciphered-nothing (keystream (state (p .self)))) ∙ placed-nothing (p .output .now) 0))
 
-sub-loop : tie.Need-sub-loop Inv-loop μ-loop
-sub-loop c = omega arith
+add-loop : tie.Need-add-loop Inv-loop μ-loop
+add-loop c = omega arith
 
-encipher-some-requires : tie.Need-encipher-some-requires Inv-loop μ-loop
-encipher-some-requires c κs = omega arith
+encipher-sixteen-requires : tie.Need-encipher-sixteen-requires Inv-loop μ-loop
+encipher-sixteen-requires c κs = omega arith
 
 add-at : tie.Need-add-at Inv-loop μ-loop
 add-at c = omega arith
@@ -73,21 +73,21 @@ loop-again c =
     let l = m .before .before .before .loop in
     let p = m .before .before .before .before .before .before .before .args in (
       omega arith,
-      m .encipher-some .kept .1 .1 .0 ∙ l .inv .1,
-      ap state (m .encipher-some .ensures .0) ∙ state-skip (l .registers) 8 ∙ ap (steps 64) (l .inv .2) ∙ sym (steps-bytes (l .at) 8 (state (p .self))),
-      m .encipher-some .ensures .1
-          ∙ ap (λ (d : List ℕ). placed d (l .at) (enciphered (keystream (state (l .registers))) (take 8 (drop (l .at) (p .input .now))))) (l .inv .3)
-          ∙ further (p .self) (l .registers) (p .input .now) (p .output .now) (l .at) 8 (omega arith) (omega arith) (l .inv .2),
+      m .encipher-sixteen .kept .1 .1 .0 ∙ l .inv .1,
+      m .encipher-sixteen .ensures .0 ∙ ap (steps 128) (l .inv .2) ∙ sym (steps-bytes (l .at) 16 (state (p .self))),
+      m .encipher-sixteen .ensures .1
+          ∙ ap (λ (d : List ℕ). placed d (l .at) (enciphered (keystream (state (l .registers))) (take 16 (drop (l .at) (p .input .now))))) (l .inv .3)
+          ∙ further (p .self) (l .registers) (p .input .now) (p .output .now) (l .at) 16 (omega arith) (omega arith) (l .inv .2),
     )
 
-sub-encipher-some : tie.Need-sub-encipher-some Inv-loop μ-loop
-sub-encipher-some c = omega arith
+sub-encipher-rest : tie.Need-sub-encipher-rest Inv-loop μ-loop
+sub-encipher-rest c = omega arith
 
-encipher-some-requires-2 : tie.Need-encipher-some-requires-2 Inv-loop μ-loop
-encipher-some-requires-2 c κs = omega arith
+encipher-rest-requires : tie.Need-encipher-rest-requires Inv-loop μ-loop
+encipher-rest-requires c κs = omega arith
 
 same-length : tie.Need-same-length Inv-loop μ-loop
-same-length c = c .before .before .encipher-some2 .kept .1 .1 .0 ∙ c .before .before .before .before .before .loop .inv .1
+same-length c = c .before .before .encipher-rest .kept .1 .1 .0 ∙ c .before .before .before .before .before .loop .inv .1
 
 returns-2 : tie.Need-returns-2 Inv-loop μ-loop
 unfolding enciphering
@@ -98,10 +98,10 @@ returns-2 c =
     let n : ℕ = length (p .input .now) in
     let room : n ≤ length (p .output .now) = omega arith in
     let whole : l .at + (n - l .at) ≡ n = omega arith in
-    let gone : m .encipher-some2 .result ≡ skipping (p .self) n =
-    m .encipher-some2 .ensures .0 ∙ skip-on (p .self) (l .registers) (l .at) (n - l .at) (l .inv .2) ∙ ap (skipping (p .self)) whole in
-    let last : m .encipher-some2 .last .1 .1 .0 ≡ placed (p .output .now) 0 (enciphered (keystream (state (p .self))) (p .input .now)) =
-    m .encipher-some2 .ensures .1
+    let gone : m .encipher-rest .result ≡ skipping (p .self) n =
+    m .encipher-rest .ensures .0 ∙ skip-on (p .self) (l .registers) (l .at) (n - l .at) (l .inv .2) ∙ ap (skipping (p .self)) whole in
+    let last : m .encipher-rest .last .1 .1 .0 ≡ placed (p .output .now) 0 (enciphered (keystream (state (p .self))) (p .input .now)) =
+    m .encipher-rest .ensures .1
     ∙ ap (λ (d : List ℕ). placed d (l .at) (enciphered (keystream (state (l .registers))) (take (n - l .at) (drop (l .at) (p .input .now))))) (l .inv .3)
     ∙ further (p .self) (l .registers) (p .input .now) (p .output .now) (l .at) (n - l .at) (omega arith) (omega arith) (l .inv .2)
     ∙ ap (λ (k : ℕ). written (p .self) (p .input .now) (p .output .now) k) whole
@@ -117,12 +117,12 @@ encipher-spec =
     μ-loop
     returns
     loop-holds
-    sub-loop
-    encipher-some-requires
+    add-loop
+    encipher-sixteen-requires
     add-at
     loop-less
     loop-again
-    sub-encipher-some
-    encipher-some-requires-2
+    sub-encipher-rest
+    encipher-rest-requires
     same-length
     returns-2)

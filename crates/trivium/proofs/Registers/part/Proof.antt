@@ -10,7 +10,6 @@ use Rattle.trivium.specs.Calls.{striding, skipping}
 use Rattle.trivium.specs.Keystream.{bits}
 use Rattle.trivium.specs.Record.{state, packed, joined}
 use Rattle.trivium.specs.Registers.{State, steps}
-use Rattle.trivium.specs.declared.Registers.{Registers}
 use Rattle.trivium.specs.declared.Strode.{Strode}
 use Rattle.trivium.proofs.Steps.{held-state, partly, put-out, strides, after, front, word-a, word-b, word-c, wordA, wordB, wordC}
 use Rattle.trivium.proofs.Words.{grown, upper-grown, lower-grown}

@@ -4,9 +4,7 @@ use mathlib.Core.Path.{_≡_, refl, ap, _∙_}
 use Prim.Native.Nat.{_+_, _-_, _≤_}
 use native.Mathlib.Omega.{arith}
 use Rattle.trivium.specs.Calls.{striding, skipping}
-use Rattle.trivium.specs.Registers.{steps}
 use Rattle.trivium.specs.declared.Strode.{Strode}
-use Rattle.trivium.specs.declared.Registers.{Registers}
 use Rattle.trivium.proofs.Steps.{skip-add}
 use Rattle.trivium.proofs.Registers.skip.Statement.{statement}
 use Rattle.trivium.proofs.Registers.skip.Tie as tie

@@ -1,4 +1,4 @@
--- `opener::read_some` meets its contract: the chunk holds the deciphered bytes at its front, and their words go to their place.
+-- `opener::read_rest` meets its contract: the room holds the deciphered bytes at its front, and their words go to their place.
 -- Assumes nothing.
 use mathlib.Core.Path.{_≡_, sym, ap, _∙_}
 use Prim.Native.Nat.{ℕ, _+_, _-_, _/_, _≤_}
@@ -18,8 +18,8 @@ use Rattle.trivium.specs.Keystream.{keystream}
 use Rattle.trivium.specs.Record.{state}
 use Rattle.trivium.specs.declared.Enciphered.{Enciphered}
 use Rattle.trivium.proofs.Theorems.{enciphers}
-use Rattle.opener.proofs.read_some.Statement.{statement}
-use Rattle.opener.proofs.read_some.Tie as tie
+use Rattle.opener.proofs.read_rest.Statement.{statement}
+use Rattle.opener.proofs.read_rest.Tie as tie
 
 -- the part of the output from a place on, and the output with that part put back
 abbrev part : ℕ → List ℤ → List ℤ
@@ -109,18 +109,16 @@ same-length c = search needs
 
 returns : tie.Need-returns
 returns c =
-    let e = c .before .before .before .before .before .before in
-    let p = e .before .before .before .before .before .args in (
-      deciphered e .0,
-      ap (λ (ys : List ℤ). put (p .at / 2) (p .output .now) ys)
-          (c .before .before .read-words .ensures ∙ ap (λ (bytes : List ℕ). wordsRead bytes (part (p .at / 2) (p .output .now))) (deciphered e .1))
-          ∙ words-placed (enciphered (keystream (state (p .registers))) (take (p .size) (drop (p .at) (p .body .now)))) (p .output .now) (p .at / 2) (p .size)
-          (size-kept (keystream (state (p .registers))) (p .body .now) (p .at) (p .size) (e .before .before .before .before .before .pre .1))
-          (e .before .before .before .before .before .pre .2),
-    )
+    let e = c .before .before .before .before .before in
+    let p = e .before .before .before .before .before .args in
+    ap (λ (ys : List ℤ). put (p .at / 2) (p .output .now) ys)
+    (c .before .read-words .ensures ∙ ap (λ (bytes : List ℕ). wordsRead bytes (part (p .at / 2) (p .output .now))) (deciphered e .1))
+    ∙ words-placed (enciphered (keystream (state (p .registers))) (take (p .size) (drop (p .at) (p .body .now)))) (p .output .now) (p .at / 2) (p .size)
+    (size-kept (keystream (state (p .registers))) (p .body .now) (p .at) (p .size) (e .before .before .before .before .before .pre .1))
+    (e .before .before .before .before .before .pre .2)
 
-pub read-some-spec : {M : Type 1} → statement M
-read-some-spec =
+pub read-rest-spec : {M : Type 1} → statement M
+read-rest-spec =
     tie.close
     (tie.spec
     blank-requires

@@ -1,4 +1,4 @@
--- `sealer::write_some` meets its contract: the chunk holds the samples' bytes at its front, and they go enciphered to their place.
+-- `sealer::write_rest` meets its contract: the chunk holds the samples' bytes at its front, and they go enciphered to their place.
 -- Assumes nothing.
 use mathlib.Core.Path.{_≡_, sym, ap, _∙_}
 use Prim.Native.Nat.{ℕ, _+_, _-_, _*_, _≤_}
@@ -19,8 +19,8 @@ use Rattle.trivium.specs.Record.{state}
 use Rattle.trivium.specs.declared.Enciphered.{Enciphered}
 use Rattle.trivium.specs.declared.Registers.{Registers}
 use Rattle.trivium.proofs.Theorems.{enciphers}
-use Rattle.sealer.proofs.write_some.Statement.{statement}
-use Rattle.sealer.proofs.write_some.Tie as tie
+use Rattle.sealer.proofs.write_rest.Statement.{statement}
+use Rattle.sealer.proofs.write_rest.Tie as tie
 
 -- the part of the output from a place on, and the output with that part put back
 abbrev part : ℕ → List ℕ → List ℕ
@@ -109,7 +109,7 @@ same-length c = search needs
 
 returns : tie.Need-returns
 returns c =
-    let e = c .before .before .before in
+    let e = c .before .before in
     let w = e .before .before .before .before in
     let b = w .before .before .before in
     let p = b .before .before .args in
@@ -121,14 +121,12 @@ returns c =
     e .encipher .ensures
     ∙ ap (λ (l : List ℕ). enciphering (p .registers) (take (2 * p .size) l) (part (p .at) (p .output .now))) (w .write-words .ensures)
     ∙ ap (λ (n : ℕ). enciphering (p .registers) (take (2 * p .size) (wordsWritten (take n (drop (p .from) (p .samples .now))) room)) (part (p .at) (p .output .now))) whole
-    ∙ called some (p .size) long (p .registers) room (p .output .now) (p .at) (omega arith) (omega arith) in (
-      ap (λ (o : Outcome Enciphered ℕ). o .answer .next) left,
-      ap (λ (o : Outcome Enciphered ℕ). put (p .at) (p .output .now) (o .buffer)) left
-          ∙ in-place some (p .size) long (keystream (state (p .registers))) (p .output .now) (p .at) (omega arith),
-    )
+    ∙ called some (p .size) long (p .registers) room (p .output .now) (p .at) (omega arith) (omega arith) in
+    ap (λ (o : Outcome Enciphered ℕ). put (p .at) (p .output .now) (o .buffer)) left
+    ∙ in-place some (p .size) long (keystream (state (p .registers))) (p .output .now) (p .at) (omega arith)
 
-pub write-some-spec : {M : Type 1} → statement M
-write-some-spec =
+pub write-rest-spec : {M : Type 1} → statement M
+write-rest-spec =
     tie.close
     (tie.spec
     blank-requires

@@ -1,0 +1,33 @@
+-- `pack::ring_of` meets its contract: key by key.
+-- Assumes nothing.
+use mathlib.Core.List.{[], _∷_}
+use Rattle.pack.specs.Ring.{ringOf}
+use borrow.Author.Needs.{needs}
+use Rattle.pack.proofs.ring_of.Statement.{statement}
+use Rattle.pack.proofs.ring_of.Tie as tie
+
+key-at-requires : tie.Need-key-at-requires
+key-at-requires c κs = search needs
+
+key-at-requires-2 : tie.Need-key-at-requires-2
+key-at-requires-2 c κs = search needs
+
+key-at-requires-3 : tie.Need-key-at-requires-3
+key-at-requires-3 c κs = search needs
+
+key-at-requires-4 : tie.Need-key-at-requires-4
+key-at-requires-4 c κs = search needs
+
+returns : tie.Need-returns
+unfolding ringOf
+returns c =
+    λ i. c .before .before .before .key-at .ensures i
+    ∷ c .before .before .key-at2 .ensures i
+    ∷ c .before .key-at3 .ensures i
+    ∷ c .key-at4 .ensures i
+    ∷ []
+
+pub ring-of-spec : {M : Type 1} → statement M
+ring-of-spec =
+    tie.close
+    (tie.spec key-at-requires key-at-requires-2 key-at-requires-3 key-at-requires-4 returns)
