@@ -1,0 +1,4 @@
+pub mod Back
+pub mod Reading
+pub mod Theorems
+pub mod Writing

@@ -1,0 +1,4 @@
+pub mod Cut
+pub mod Laws
+pub mod Theorems
+pub mod Untouched

@@ -1,0 +1,271 @@
+/*
+ * semivrakh.h: sealed sound packs under the stream cipher Trivium, and the two ends of the sound link.
+ *
+ * Every function below is proved: it takes every input, ends, and answers exactly what its definition says.
+ *
+ * What holds for every call
+ *
+ *   - It returns 0, or the number for no. A refused call writes nothing at all: no byte of a record, of a buffer or of
+ *     a number that it was lent.
+ *   - A run is lent as a pointer and the count of its elements. The pointer must be good for that many elements; with a
+ *     count of 0 it isn't followed, and may be NULL. A pointer to a single size_t must be good.
+ *   - What a call may write overlaps nothing else that it is lent; so enciphering goes from one buffer to another.
+ *   - Where several numbers would fit, the first in the order given at the call is the answer.
+ *   - A buffer may be longer than what is written to it; the rest stays as it was.
+ *   - No call keeps anything between two calls, allocates, or reads or writes anything but what it is lent. Calls on
+ *     different records may run at the same time.
+ *
+ * Records
+ *
+ *   A cipher, a sender and a receiver are runs of bytes that the caller keeps. They may be stored, copied and sent; they
+ *   hold keys, so keep them as you keep keys. Numbers in them have their most significant byte first. Making writes a
+ *   record to the front of any buffer that is long enough; every other call wants exactly the record's length, and
+ *   refuses bytes that are no record, enciphering with 3 and the link's calls with 27.
+ *
+ *   Cipher, 48 bytes: the registers a (93 bits), b (84) and c (111), each in 16 bytes as one number, its newest bit the
+ *   lowest. The bits above a register are ignored, and come back zero from a call that isn't refused; so every 48
+ *   bytes are a cipher.
+ *
+ *   Sender, 27 bytes:
+ *      0  key, 10 bytes
+ *     10  pair name, 6 bytes
+ *     16  session, 4 bytes; 0 means none yet
+ *     20  length of the sound, 4 bytes, at most 32,768
+ *     24  phase, 1 byte: 0 idle, 1 opening, 2 sending, 3 done, 4 refused as too long
+ *     25  while sending, how many blocks are known to be held, 2 bytes; otherwise 0
+ *   It is out of rule (27) with another phase or length, with a count that isn't 0 unless sending, with a session of 0
+ *   unless idle, or sending with no block left.
+ *
+ *   Receiver, 26 bytes:
+ *      0  key, 10 bytes
+ *     10  pair name, 6 bytes
+ *     16  session, 4 bytes; 0 means none yet
+ *     20  length of the sound, 4 bytes, at most 32,768
+ *     24  how many blocks are held, 2 bytes
+ *   It is out of rule (27) with another length, with a session of 0 and a length or count that isn't 0, or with more
+ *   blocks held than the sound has.
+ *
+ * An example: a cipher, and a stream in two calls
+ *
+ *     uint8_t cipher[SEMIVRAKH_CIPHER_BYTES];
+ *     uint8_t no = semivrakh_cipher_make(cipher, sizeof cipher, key, 10, value, 10);
+ *     if (no == 0) no = semivrakh_cipher_encipher(cipher, sizeof cipher, plain, 100, sealed, 100);
+ *     if (no == 0) no = semivrakh_cipher_encipher(cipher, sizeof cipher, plain + 100, 28, sealed + 100, 28);
+ */
+#ifndef SEMIVRAKH_H
+#define SEMIVRAKH_H
+
+#include <stddef.h>
+#include <stdint.h>
+
+#ifdef __cplusplus
+extern "C" {
+#endif
+
+/* The numbers for no. */
+enum {
+    SEMIVRAKH_OK = 0,
+    SEMIVRAKH_BAD_KEY = 1,         /* key not 10 bytes, or ring not 40 */
+    SEMIVRAKH_BAD_VALUE = 2,       /* initial value not 10 bytes, or pair name not 6 */
+    SEMIVRAKH_NOT_A_CIPHER = 3,    /* cipher record not 48 bytes */
+    SEMIVRAKH_CUT_SHORT = 10,      /* file ends inside a section */
+    SEMIVRAKH_LONG_NAME = 11,      /* name over 32 bytes */
+    SEMIVRAKH_BAD_NAME = 12,       /* a name byte outside 32..126 */
+    SEMIVRAKH_BAD_KEY_COUNT = 13,  /* key count not 11 */
+    SEMIVRAKH_BAD_KEY_NUMBER = 14, /* key number over 3 */
+    SEMIVRAKH_MANY_SAMPLES = 15,   /* over 16,384 samples */
+    SEMIVRAKH_MANY_LOOPS = 16,     /* over 8 loops; in sealing also an odd run */
+    SEMIVRAKH_BAD_LOOP = 17,       /* a loop's start not below its end, or its end over the sample count */
+    SEMIVRAKH_MORE_BYTES = 18,     /* bytes after the loops */
+    SEMIVRAKH_NO_ROOM = 19,        /* a lent output is too short */
+    SEMIVRAKH_NO_SESSION = 20,     /* no session number left */
+    SEMIVRAKH_LONG_SOUND = 21,     /* sound over 32,768 bytes */
+    SEMIVRAKH_NO_TRANSFER = 22,    /* no transfer under way */
+    SEMIVRAKH_WRONG_SOUND = 23,    /* lent sound not of the length begun; receiver's buffer shorter than the transfer */
+    SEMIVRAKH_NOT_A_FRAME = 24,    /* not a frame for this end, or one with a number outside its limits */
+    SEMIVRAKH_OTHER_SESSION = 25,  /* frame of another session; receiver: opening of a lower one */
+    SEMIVRAKH_IMPOSSIBLE = 26,     /* a count or a block that can't be */
+    SEMIVRAKH_OUT_OF_RULE = 27     /* bytes that are no link record, or one out of rule */
+};
+
+/* Lengths, in bytes unless said otherwise. */
+enum {
+    SEMIVRAKH_CIPHER_BYTES = 48,
+    SEMIVRAKH_SENDER_BYTES = 27,
+    SEMIVRAKH_RECEIVER_BYTES = 26,
+    SEMIVRAKH_KEY_BYTES = 10,
+    SEMIVRAKH_VALUE_BYTES = 10,
+    SEMIVRAKH_PAIR_BYTES = 6,
+    SEMIVRAKH_RING_BYTES = 40,   /* four keys, one after the other */
+    SEMIVRAKH_NAME_MOST = 32,
+    SEMIVRAKH_SAMPLES_MOST = 16384, /* samples */
+    SEMIVRAKH_LOOPS_MOST = 8,    /* loops, two numbers each */
+    SEMIVRAKH_PACK_MOST = 32882, /* the longest pack file */
+    SEMIVRAKH_SOUND_MOST = 32768, /* the longest sound on the link */
+    SEMIVRAKH_BLOCK_BYTES = 64,
+    SEMIVRAKH_FRAME_MOST = 72,   /* room for any frame of the sender */
+    SEMIVRAKH_ANSWER_MOST = 7    /* room for any answer of the receiver */
+};
+
+/* What semivrakh_pack_open answers, by index. Places are indices into the file. */
+enum {
+    SEMIVRAKH_OPENED_SAMPLES = 0,     /* sample count */
+    SEMIVRAKH_OPENED_KEY = 1,         /* key number */
+    SEMIVRAKH_OPENED_LOOPS = 2,       /* loop count */
+    SEMIVRAKH_OPENED_NAME_LENGTH = 3,
+    SEMIVRAKH_OPENED_NAME_AT = 4,     /* where the name begins */
+    SEMIVRAKH_OPENED_VALUE_AT = 5,    /* where the initial value begins */
+    SEMIVRAKH_OPENED_LOOPS_AT = 6,    /* where the loops begin: 8 bytes each, start and end */
+    SEMIVRAKH_OPENED_NUMBERS = 7
+};
+
+/* A sender's phase: byte SEMIVRAKH_SENDER_PHASE_AT of its record. */
+enum {
+    SEMIVRAKH_IDLE = 0,
+    SEMIVRAKH_OPENING = 1,
+    SEMIVRAKH_SENDING = 2,
+    SEMIVRAKH_DONE = 3,
+    SEMIVRAKH_REFUSED_TOO_LONG = 4
+};
+
+/* Where fields begin in the records. */
+enum {
+    SEMIVRAKH_SESSION_AT = 16,         /* sender and receiver, 4 bytes */
+    SEMIVRAKH_LENGTH_AT = 20,          /* sender and receiver, 4 bytes */
+    SEMIVRAKH_SENDER_PHASE_AT = 24,    /* 1 byte */
+    SEMIVRAKH_SENDER_KNOWN_AT = 25,    /* 2 bytes */
+    SEMIVRAKH_RECEIVER_COUNT_AT = 24   /* 2 bytes */
+};
+
+/*
+ * Makes a cipher from a key and an initial value of 10 bytes each, after its 1,152 blank rounds.
+ * Writes the record to the front of `cipher`. Refuses, in order: 1, 2, 19 (fewer than 48 bytes for the record).
+ */
+uint8_t semivrakh_cipher_make(uint8_t *cipher, size_t cipher_length,
+                              const uint8_t *key, size_t key_length,
+                              const uint8_t *value, size_t value_length);
+
+/*
+ * Enciphers, or deciphers, which is the same: the input under the next bytes of the keystream, to the front of the
+ * output. The record moves on by as many bytes, so a stream may be cut in calls at any byte.
+ * Refuses, in order: 3, 19 (output shorter than the input).
+ */
+uint8_t semivrakh_cipher_encipher(uint8_t *cipher, size_t cipher_length,
+                                  const uint8_t *input, size_t input_length,
+                                  uint8_t *output, size_t output_length);
+
+/*
+ * Opens a pack file under the key of the ring that it names. Writes the samples to the front of `samples`, and seven
+ * numbers, SEMIVRAKH_OPENED_.., to the front of `answer`. Lend 16,384 samples, and any pack has room.
+ * Refuses, in order: 1 (ring not 40 bytes), what the file has wrong from front to back (10 to 18), 19 (too few samples
+ * lent for the pack, or fewer than seven numbers).
+ *
+ *     int16_t samples[SEMIVRAKH_SAMPLES_MOST];
+ *     size_t answer[SEMIVRAKH_OPENED_NUMBERS];
+ *     uint8_t no = semivrakh_pack_open(file, file_length, ring, 40, samples, SEMIVRAKH_SAMPLES_MOST,
+ *                                      answer, SEMIVRAKH_OPENED_NUMBERS);
+ *     if (no == 0) play(samples, answer[SEMIVRAKH_OPENED_SAMPLES]);
+ */
+uint8_t semivrakh_pack_open(const uint8_t *file, size_t file_length,
+                            const uint8_t *ring, size_t ring_length,
+                            int16_t *samples, size_t sample_room,
+                            size_t *answer, size_t answer_room);
+
+/*
+ * Seals a sound as a pack file under the key of the ring that the key number names. `loops` are starts and ends in
+ * turn, so `loop_numbers` is twice the count of loops. Writes the file to the front of `output` and its length to
+ * `*file_length`. Lend 32,882 bytes, and any pack has room. Never use an initial value twice under one key.
+ * Refuses, in order: 1 (ring not 40 bytes), 11, 12, 2, 14, 15, 16, 17, 19.
+ *
+ *     uint8_t file[SEMIVRAKH_PACK_MOST];
+ *     size_t length;
+ *     const uint32_t loops[] = {0, 100, 100, 200};
+ *     uint8_t no = semivrakh_pack_seal((const uint8_t *)"Choir", 5, ring, 40, 2, value, 10, samples, 200, loops, 4,
+ *                                      file, sizeof file, &length);
+ *     if (no == 0) fwrite(file, 1, length, stream);
+ */
+uint8_t semivrakh_pack_seal(const uint8_t *name, size_t name_length,
+                            const uint8_t *ring, size_t ring_length,
+                            uint8_t key_number,
+                            const uint8_t *value, size_t value_length,
+                            const int16_t *samples, size_t sample_count,
+                            const uint32_t *loops, size_t loop_numbers,
+                            uint8_t *output, size_t output_length,
+                            size_t *file_length);
+
+/*
+ * The link, sender's end. A transfer goes
+ *
+ *     uint8_t frame[SEMIVRAKH_FRAME_MOST], answer[SEMIVRAKH_ANSWER_MOST];
+ *     size_t length;
+ *     semivrakh_sender_begin(sender, sizeof sender, sound, n);      made once, begun for each sound
+ *     while (sender[SEMIVRAKH_SENDER_PHASE_AT] == SEMIVRAKH_OPENING ||
+ *            sender[SEMIVRAKH_SENDER_PHASE_AT] == SEMIVRAKH_SENDING) {
+ *         if (semivrakh_sender_send(sender, sizeof sender, sound, n, frame, sizeof frame, &length) != 0) break;
+ *         put_on_line(frame, length);
+ *         if ((length = wait_for_answer(answer)) > 0) semivrakh_sender_hear(sender, sizeof sender, answer, length);
+ *     }
+ *
+ * with no more to do after a loss than to send again. The other end hears, and answers whatever it doesn't refuse:
+ *
+ *     length = wait_for_frame(frame);
+ *     if (semivrakh_receiver_hear(receiver, sizeof receiver, frame, length, room, sizeof room, answer, sizeof answer,
+ *                                 &length) == 0) put_on_line(answer, length);
+ *
+ * A transfer ends with DONE, the receiver holding the whole sound, or with REFUSED_TOO_LONG. A frame that comes late, twice or
+ * out of turn does no harm: it is refused, or it is no news. A pair of ends must be made fresh together, with the same
+ * key and pair name, and neither may be set back to an older record.
+ */
+
+/* Makes a sender, idle, at the front of `sender`. Refuses, in order: 1, 2, 19 (fewer than 27 bytes for the record). */
+uint8_t semivrakh_sender_make(uint8_t *sender, size_t sender_length,
+                              const uint8_t *key, size_t key_length,
+                              const uint8_t *pair, size_t pair_length);
+
+/*
+ * Begins to send a sound, of 0 to 32,768 bytes, under the next session, also over an unfinished transfer. The same sound
+ * is lent again to each sending. Refuses, in order: 27, 21, 20.
+ */
+uint8_t semivrakh_sender_begin(uint8_t *sender, size_t sender_length,
+                               const uint8_t *sound, size_t sound_length);
+
+/*
+ * Writes the frame that is due, the opening or the first block not known to be held, to the front of `frame`, and its
+ * length to `*frame_length`. The record doesn't change, and the same frame may be asked for again.
+ * Refuses, in order: 27, 22, 23 (the sound hasn't the length begun), 19.
+ */
+uint8_t semivrakh_sender_send(const uint8_t *sender, size_t sender_length,
+                              const uint8_t *sound, size_t sound_length,
+                              uint8_t *frame, size_t frame_room,
+                              size_t *frame_length);
+
+/* Hears an answer of the receiver, lent exactly. Refuses, in order: 27, 24, 22, 25, 26. */
+uint8_t semivrakh_sender_hear(uint8_t *sender, size_t sender_length,
+                              const uint8_t *frame, size_t frame_length);
+
+/*
+ * The link, receiver's end. Makes a receiver at the front of `receiver`.
+ * Refuses, in order: 1, 2, 19 (fewer than 26 bytes for the record).
+ */
+uint8_t semivrakh_receiver_make(uint8_t *receiver, size_t receiver_length,
+                                const uint8_t *key, size_t key_length,
+                                const uint8_t *pair, size_t pair_length);
+
+/*
+ * Hears a frame of the sender, lent exactly. Writes the answer frame to the front of `answer` and its length to
+ * `*answer_length`. `sound` is the buffer that the sound arrives in: lend the same one to every call of a transfer, and
+ * let nobody else write to it. A block in turn writes its own bytes there, and nothing else writes anything.
+ * Refuses, in order: 27, 24, 25, 26, 23 (the buffer is shorter than the transfer), 19 (fewer than 7 bytes for an
+ * answer).
+ */
+uint8_t semivrakh_receiver_hear(uint8_t *receiver, size_t receiver_length,
+                                const uint8_t *frame, size_t frame_length,
+                                uint8_t *sound, size_t sound_length,
+                                uint8_t *answer, size_t answer_room,
+                                size_t *answer_length);
+
+#ifdef __cplusplus
+}
+#endif
+
+#endif
