@@ -1,0 +1,277 @@
+/*
+ * Sends sounds over the link, on a line that loses, repeats, delays and reorders frames, and looks at what arrives: a
+ * sound that fits, an empty one, and one too long for the receiver. Exit status 0 only if all goes as it should.
+ */
+#include <stdbool.h>
+
+#include "files.h"
+
+static const char usage[] =
+    "usage: link_demo [SEED] [FILE]\n"
+    "  SEED  a number that decides what the line does, 1 if it is not given\n"
+    "  FILE  the sound to send, its first 32,768 bytes; if it is not given, the program makes one";
+
+/* A real pair has a key and a name of its own: ends made afresh under old ones would use their keystream again. */
+static const uint8_t key[] = {'d', 'e', 'm', 'o', ' ', 'k', 'e', 'y', ' ', '0'};
+static const uint8_t pair_name[] = {'d', 'e', 's', 'k', '-', '1'};
+
+enum {
+    MADE_BYTES = 24601, /* no whole number of blocks: the last one is short */
+    SMALL_ROOM = 4096,
+    BAG_FRAMES = 32,
+    PATIENCE = 6,   /* ticks without news until the sender sends again */
+    GIVE_UP = 1000, /* ticks without news until this program calls the link broken */
+    REPORTS = 10,   /* lines of progress in a transfer */
+    BAR = 30
+};
+
+/* The line */
+
+struct frame {
+    uint8_t bytes[SEMIVRAKH_FRAME_MOST];
+    size_t length;
+    unsigned long number; /* frames are numbered as they are put on the line */
+    unsigned long due;    /* the tick from which it may come out */
+};
+
+/* One direction of the line: the frames on their way, in no order. */
+struct bag {
+    struct frame frames[BAG_FRAMES];
+    size_t count;
+    unsigned long newest_out; /* the highest number that came out */
+};
+
+struct line {
+    struct bag to_receiver, to_sender;
+    uint64_t random;
+    unsigned long tick, put, lost, repeated, late, refused;
+};
+
+static unsigned random_below(struct line *line, unsigned limit)
+{
+    line->random = line->random * 6364136223846793005u + 1442695040888963407u;
+    return (unsigned)(line->random >> 33) % limit;
+}
+
+/* Most frames take a few ticks. One in sixteen takes so long that others overtake it; it may outlive its transfer. */
+static unsigned long delay(struct line *line)
+{
+    return random_below(line, 16) == 0 ? 20 + random_below(line, 100) : random_below(line, 4);
+}
+
+static void put_frame(struct line *line, struct bag *bag, const uint8_t *bytes, size_t length)
+{
+    unsigned fate = random_below(line, 100);
+    unsigned copies = fate < 15 ? 0 : fate < 25 ? 2 : 1;
+    if (bag->count + copies > BAG_FRAMES) copies = 0;
+    line->put++;
+    line->lost += copies == 0;
+    line->repeated += copies == 2;
+    while (copies-- > 0) {
+        struct frame *frame = &bag->frames[bag->count++];
+        memcpy(frame->bytes, bytes, length);
+        frame->length = length;
+        frame->number = line->put;
+        frame->due = line->tick + delay(line);
+    }
+}
+
+/* Takes a frame that is due out of the bag, if there is one. The last of the bag gets its place, so order is lost. */
+static bool take_frame(struct line *line, struct bag *bag, struct frame *frame)
+{
+    for (size_t i = 0; i < bag->count; i++) {
+        if (bag->frames[i].due > line->tick) continue;
+        *frame = bag->frames[i];
+        bag->frames[i] = bag->frames[--bag->count];
+        if (frame->number < bag->newest_out) line->late++;
+        else bag->newest_out = frame->number;
+        return true;
+    }
+    return false;
+}
+
+/* The two ends */
+
+struct ends {
+    uint8_t sender[SEMIVRAKH_SENDER_BYTES];
+    uint8_t receiver[SEMIVRAKH_RECEIVER_BYTES];
+    uint8_t *room; /* where the receiver puts a sound */
+    size_t room_length;
+};
+
+static void must_be_ok(uint8_t no, const char *call)
+{
+    if (no == SEMIVRAKH_OK) return;
+    printf("%s was refused with %d, which cannot be\n", call, no);
+    exit(1);
+}
+
+static struct ends make_ends(uint8_t *room, size_t room_length)
+{
+    struct ends ends = {.room = room, .room_length = room_length};
+    must_be_ok(semivrakh_sender_make(ends.sender, sizeof ends.sender, key, sizeof key, pair_name, sizeof pair_name),
+               "making a sender");
+    must_be_ok(semivrakh_receiver_make(ends.receiver, sizeof ends.receiver, key, sizeof key, pair_name,
+                                       sizeof pair_name), "making a receiver");
+    return ends;
+}
+
+static uint8_t phase(const struct ends *ends)
+{
+    return ends->sender[SEMIVRAKH_SENDER_PHASE_AT];
+}
+
+/* Numbers in records have their most significant byte first. */
+static unsigned long number_at(const uint8_t *bytes, int count)
+{
+    unsigned long number = 0;
+    for (int i = 0; i < count; i++) number = 256 * number + bytes[i];
+    return number;
+}
+
+static unsigned blocks_held(const struct ends *ends)
+{
+    return (unsigned)number_at(ends->receiver + SEMIVRAKH_RECEIVER_COUNT_AT, 2);
+}
+
+static void sender_sends(struct ends *ends, struct line *line, const uint8_t *sound, size_t length)
+{
+    uint8_t frame[SEMIVRAKH_FRAME_MOST];
+    size_t frame_length;
+    must_be_ok(semivrakh_sender_send(ends->sender, sizeof ends->sender, sound, length, frame, sizeof frame,
+                                     &frame_length), "sending");
+    put_frame(line, &line->to_receiver, frame, frame_length);
+}
+
+/* A frame that comes after its transfer is refused with 25. A line that alters no frame leads to no other number. */
+static void receiver_hears(struct ends *ends, struct line *line)
+{
+    struct frame frame;
+    if (!take_frame(line, &line->to_receiver, &frame)) return;
+    uint8_t answer[SEMIVRAKH_ANSWER_MOST];
+    size_t answer_length;
+    uint8_t no = semivrakh_receiver_hear(ends->receiver, sizeof ends->receiver, frame.bytes, frame.length, ends->room,
+                                         ends->room_length, answer, sizeof answer, &answer_length);
+    if (no == SEMIVRAKH_OTHER_SESSION) {
+        line->refused++;
+        return;
+    }
+    must_be_ok(no, "the receiver's hearing");
+    put_frame(line, &line->to_sender, answer, answer_length);
+}
+
+/* Answers if the sender got to know anything new. An answer that comes after its transfer is refused with 22 or 25. */
+static bool sender_hears(struct ends *ends, struct line *line)
+{
+    struct frame frame;
+    if (!take_frame(line, &line->to_sender, &frame)) return false;
+    uint8_t before[SEMIVRAKH_SENDER_BYTES];
+    memcpy(before, ends->sender, sizeof before);
+    uint8_t no = semivrakh_sender_hear(ends->sender, sizeof ends->sender, frame.bytes, frame.length);
+    if (no == SEMIVRAKH_NO_TRANSFER || no == SEMIVRAKH_OTHER_SESSION) line->refused++;
+    else must_be_ok(no, "the sender's hearing");
+    return memcmp(before, ends->sender, sizeof before) != 0;
+}
+
+/* A transfer */
+
+static void show_progress(const struct ends *ends, const struct line *line, unsigned blocks)
+{
+    char bar[BAR + 1] = "";
+    for (unsigned i = 0; i < BAR; i++) bar[i] = i < blocks_held(ends) * BAR / blocks ? '#' : '.';
+    printf("[%s] block %3u of %u, %lu lost, %lu repeated, %lu late\n", bar, blocks_held(ends), blocks, line->lost,
+           line->repeated, line->late);
+}
+
+/* Runs a transfer until the sender knows its end, and answers the phase it is then in. */
+static uint8_t transfer(struct ends *ends, struct line *line, const uint8_t *sound, size_t length)
+{
+    unsigned blocks = (unsigned)((length + SEMIVRAKH_BLOCK_BYTES - 1) / SEMIVRAKH_BLOCK_BYTES);
+    unsigned shown = 0, quiet = 0;
+    must_be_ok(semivrakh_sender_begin(ends->sender, sizeof ends->sender, sound, length), "beginning");
+    while ((phase(ends) == SEMIVRAKH_OPENING || phase(ends) == SEMIVRAKH_SENDING) && quiet < GIVE_UP) {
+        if (quiet % PATIENCE == 0) sender_sends(ends, line, sound, length);
+        receiver_hears(ends, line);
+        quiet = sender_hears(ends, line) ? 0 : quiet + 1;
+        line->tick++;
+        /* while opening, the receiver's count may still be that of the transfer before */
+        if (blocks == 0 || phase(ends) == SEMIVRAKH_OPENING) continue;
+        if (blocks_held(ends) * REPORTS / blocks > shown) show_progress(ends, line, blocks);
+        shown = blocks_held(ends) * REPORTS / blocks;
+    }
+    return phase(ends);
+}
+
+/* Lets all frames come out that are still on the line. */
+static void run_empty(struct ends *ends, struct line *line)
+{
+    for (; line->to_receiver.count + line->to_sender.count > 0; line->tick++) {
+        receiver_hears(ends, line);
+        sender_hears(ends, line);
+    }
+}
+
+/* What arrived */
+
+/* CRC-32, as in gzip. */
+static uint32_t checksum(const uint8_t *bytes, size_t length)
+{
+    uint32_t sum = UINT32_MAX;
+    for (size_t i = 0; i < length; i++) {
+        sum ^= bytes[i];
+        for (int bit = 0; bit < 8; bit++) sum = sum >> 1 ^ (sum % 2 == 1 ? 0xEDB88320 : 0);
+    }
+    return ~sum;
+}
+
+static const char *phase_words(uint8_t phase)
+{
+    return phase == SEMIVRAKH_DONE ? "done" : phase == SEMIVRAKH_REFUSED_TOO_LONG ? "refused as too long" : "NOT ENDED";
+}
+
+/* A tone that falls, a byte a sample. */
+static void make_sound(uint8_t *sound, size_t length)
+{
+    for (size_t i = 0; i < length; i++) sound[i] = (uint8_t)(i * 4096 / (i / 16 + 256));
+}
+
+int main(int words, char **word)
+{
+    if (words > 3) stop("%s", usage);
+    setvbuf(stdout, NULL, _IOLBF, 0); /* progress is seen as it is made, through a pipe too */
+    static struct line line;
+    line.random = words > 1 ? number_of(word[1], "SEED", 0, UINT32_MAX) : 1;
+    static uint8_t sound[SEMIVRAKH_SOUND_MOST], room[SEMIVRAKH_SOUND_MOST];
+    size_t length = MADE_BYTES;
+    if (words > 2) length = read_file(word[2], sound, sizeof sound);
+    else make_sound(sound, length);
+    for (size_t i = 0; i < length; i++) room[i] = (uint8_t)~sound[i]; /* no byte is right before it has arrived */
+    struct ends ends = make_ends(room, sizeof room);
+
+    printf("a sound of %zu bytes, checksum %08x\n", length, checksum(sound, length));
+    uint8_t first = transfer(&ends, &line, sound, length);
+    size_t arrived = number_at(ends.receiver + SEMIVRAKH_LENGTH_AT, 4);
+    bool same = arrived == length && memcmp(sound, room, length) == 0;
+    printf("%s, with %u blocks held, after %lu ticks and %lu frames, answers among them\n", phase_words(first),
+           blocks_held(&ends), line.tick, line.put);
+    printf("arrived: %zu bytes, checksum %08x, %s\n", arrived, checksum(room, arrived),
+           same ? "the same byte for byte" : "NOT THE SAME");
+
+    uint8_t second = transfer(&ends, &line, NULL, 0);
+    printf("an empty sound: %s, with %u blocks held\n", phase_words(second), blocks_held(&ends));
+
+    static const uint8_t long_sound[SMALL_ROOM + 1];
+    ends.room_length = SMALL_ROOM;
+    uint8_t third = transfer(&ends, &line, long_sound, sizeof long_sound);
+    printf("a sound of %zu bytes for a room of %zu: %s\n", sizeof long_sound, ends.room_length, phase_words(third));
+
+    run_empty(&ends, &line);
+    bool kept = memcmp(sound, room, length) == 0;
+    printf("%lu frames came after the end of their transfer and were refused; the first sound is %s\n", line.refused,
+           kept ? "still as it was" : "DAMAGED");
+
+    bool ended = first == SEMIVRAKH_DONE && second == SEMIVRAKH_DONE && third == SEMIVRAKH_REFUSED_TOO_LONG;
+    bool good = ended && same && kept;
+    puts(good ? "all is as it should be" : "NOT AS IT SHOULD BE");
+    return good ? 0 : 1;
+}

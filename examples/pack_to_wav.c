@@ -1,0 +1,143 @@
+/*
+ * Opens a sealed pack and writes its sound as a WAV file: mono, 16 bits, PCM. The pack's loops go to a 'smpl' chunk,
+ * where a sampler finds them.
+ */
+#include "files.h"
+
+static const char usage[] =
+    "usage: pack_to_wav KEYS PACK OUT.wav [RATE]\n"
+    "  KEYS  a file of 40 bytes, four keys of ten bytes each\n"
+    "  RATE  samples a second, 44100 if it is not given: a pack does not say";
+
+enum {
+    RATE_USUAL = 44100,
+    RATE_MOST = 1000000,
+    SAMPLE_BYTES = 2,
+    RIFF_HEAD = 12,
+    CHUNK_HEAD = 8,
+    FMT_BYTES = 16,
+    SMPL_HEAD = 36,
+    SMPL_LOOP = 24,
+    MIDDLE_C = 60,
+    WAV_MOST = RIFF_HEAD + CHUNK_HEAD + FMT_BYTES + CHUNK_HEAD + SAMPLE_BYTES * SEMIVRAKH_SAMPLES_MOST + CHUNK_HEAD
+             + SMPL_HEAD + SMPL_LOOP * SEMIVRAKH_LOOPS_MOST
+};
+
+/* A WAV file as it grows. Its numbers have their least significant byte first. */
+struct wav {
+    uint8_t bytes[WAV_MOST];
+    size_t length;
+};
+
+static void put(struct wav *wav, uint32_t number, int bytes)
+{
+    for (int i = 0; i < bytes; i++) wav->bytes[wav->length++] = (uint8_t)(number >> (8 * i));
+}
+
+static void put_id(struct wav *wav, const char id[5])
+{
+    memcpy(wav->bytes + wav->length, id, 4);
+    wav->length += 4;
+}
+
+static void put_format(struct wav *wav, uint32_t rate)
+{
+    put_id(wav, "fmt ");
+    put(wav, FMT_BYTES, 4);
+    put(wav, 1, 2); /* PCM */
+    put(wav, 1, 2); /* one channel */
+    put(wav, rate, 4);
+    put(wav, rate * SAMPLE_BYTES, 4);
+    put(wav, SAMPLE_BYTES, 2);
+    put(wav, 8 * SAMPLE_BYTES, 2);
+}
+
+static void put_samples(struct wav *wav, const int16_t *samples, size_t count)
+{
+    put_id(wav, "data");
+    put(wav, (uint32_t)(SAMPLE_BYTES * count), 4);
+    for (size_t i = 0; i < count; i++) put(wav, (uint16_t)samples[i], SAMPLE_BYTES);
+}
+
+/* In a pack a loop ends before its end, in a WAV file with it. */
+static void put_loops(struct wav *wav, const uint32_t *loops, size_t count, uint32_t rate)
+{
+    put_id(wav, "smpl");
+    put(wav, (uint32_t)(SMPL_HEAD + SMPL_LOOP * count), 4);
+    put(wav, 0, 4); /* any maker */
+    put(wav, 0, 4); /* any product */
+    put(wav, (1000000000 + rate / 2) / rate, 4); /* nanoseconds a sample */
+    put(wav, MIDDLE_C, 4); /* the note at which it sounds as it is */
+    put(wav, 0, 4); /* and no fraction of a note */
+    put(wav, 0, 4); /* no time code */
+    put(wav, 0, 4);
+    put(wav, (uint32_t)count, 4);
+    put(wav, 0, 4); /* nothing after the loops */
+    for (size_t i = 0; i < count; i++) {
+        put(wav, (uint32_t)i, 4);
+        put(wav, 0, 4); /* forward */
+        put(wav, loops[2 * i], 4);
+        put(wav, loops[2 * i + 1] - 1, 4);
+        put(wav, 0, 4); /* no fraction of a sample */
+        put(wav, 0, 4); /* again and again, without end */
+    }
+}
+
+static void make_wav(struct wav *wav, const int16_t *samples, size_t sample_count, const uint32_t *loops,
+                     size_t loop_count, uint32_t rate)
+{
+    wav->length = 0;
+    put_id(wav, "RIFF");
+    put(wav, 0, 4); /* the length, put in when it is known */
+    put_id(wav, "WAVE");
+    put_format(wav, rate);
+    put_samples(wav, samples, sample_count);
+    if (loop_count > 0) put_loops(wav, loops, loop_count, rate);
+
+    size_t whole = wav->length;
+    wav->length = 4;
+    put(wav, (uint32_t)(whole - CHUNK_HEAD), 4);
+    wav->length = whole;
+}
+
+/* The numbers of a pack have their most significant byte first. */
+static uint32_t pack_number(const uint8_t *bytes)
+{
+    return (uint32_t)bytes[0] << 24 | (uint32_t)bytes[1] << 16 | (uint32_t)bytes[2] << 8 | bytes[3];
+}
+
+int main(int words, char **word)
+{
+    if (words != 4 && words != 5) stop("%s", usage);
+    uint32_t rate = words == 5 ? number_of(word[4], "RATE", 1, RATE_MOST) : RATE_USUAL;
+
+    uint8_t ring[RING_ROOM];
+    size_t ring_length = read_ring(word[1], ring);
+    static uint8_t pack[SEMIVRAKH_PACK_MOST + 1]; /* a longer file is refused by these bytes already */
+    size_t pack_length = read_file(word[2], pack, sizeof pack);
+
+    static int16_t samples[SEMIVRAKH_SAMPLES_MOST];
+    size_t answer[SEMIVRAKH_OPENED_NUMBERS];
+    uint8_t no = semivrakh_pack_open(pack, pack_length, ring, ring_length, samples, SEMIVRAKH_SAMPLES_MOST, answer,
+                                     SEMIVRAKH_OPENED_NUMBERS);
+    if (no != SEMIVRAKH_OK) refused(no);
+
+    size_t sample_count = answer[SEMIVRAKH_OPENED_SAMPLES];
+    size_t loop_count = answer[SEMIVRAKH_OPENED_LOOPS];
+    uint32_t loops[2 * SEMIVRAKH_LOOPS_MOST];
+    for (size_t i = 0; i < 2 * loop_count; i++)
+        loops[i] = pack_number(pack + answer[SEMIVRAKH_OPENED_LOOPS_AT] + 4 * i);
+
+    static struct wav wav;
+    make_wav(&wav, samples, sample_count, loops, loop_count, rate);
+    write_file(word[3], wav.bytes, wav.length);
+
+    const char *name = (const char *)pack + answer[SEMIVRAKH_OPENED_NAME_AT];
+    printf("name %.*s\n", (int)answer[SEMIVRAKH_OPENED_NAME_LENGTH], name);
+    printf("key %zu\n", answer[SEMIVRAKH_OPENED_KEY]);
+    printf("samples %zu\n", sample_count);
+    printf("loops %zu\n", loop_count);
+    for (size_t i = 0; i < loop_count; i++) printf("loop %zu from %u to %u\n", i + 1, loops[2 * i], loops[2 * i + 1]);
+    printf("seconds %.3f\n", (double)sample_count / rate);
+    return 0;
+}
