@@ -1,0 +1,126 @@
+#include "calls.h"
+
+#include "lend.h"
+#include "model.h"
+
+static struct lending lend(const char *name, struct run run, size_t size, bool may_write) {
+    return (struct lending){name, run.content, run.count, size, may_write};
+}
+
+static struct lending to_read(const char *name, struct run run) {
+    return lend(name, run, 1, false);
+}
+
+static struct lending to_write(const char *name, struct run run) {
+    return lend(name, run, 1, true);
+}
+
+static struct lending number_to_write(const char *name) {
+    return lend(name, room(1), sizeof(size_t), true);
+}
+
+typedef uint8_t maker(uint8_t *, size_t, const uint8_t *, size_t, const uint8_t *, size_t);
+
+static uint8_t compare_make(enum call call, maker *const makers[SIDES], struct run record, struct run key,
+                            struct run value) {
+    uint8_t numbers[SIDES];
+    lend_all((struct lending[]){to_write("record", record), to_read("key", key), to_read("value", value)}, 3);
+    for (enum side side = LIBRARY; side < SIDES; side++) {
+        numbers[side] = makers[side](lent(side, 0), record.count, lent(side, 1), key.count, lent(side, 2), value.count);
+    }
+    return settle(call, numbers);
+}
+
+uint8_t compare_cipher_make(struct run cipher, struct run key, struct run value) {
+    static maker *const makers[SIDES] = {semivrakh_cipher_make, model_cipher_make};
+    return compare_make(CIPHER_MAKE, makers, cipher, key, value);
+}
+
+uint8_t compare_sender_make(struct run sender, struct run key, struct run pair) {
+    static maker *const makers[SIDES] = {semivrakh_sender_make, model_sender_make};
+    return compare_make(SENDER_MAKE, makers, sender, key, pair);
+}
+
+uint8_t compare_receiver_make(struct run receiver, struct run key, struct run pair) {
+    static maker *const makers[SIDES] = {semivrakh_receiver_make, model_receiver_make};
+    return compare_make(RECEIVER_MAKE, makers, receiver, key, pair);
+}
+
+uint8_t compare_cipher_encipher(struct run cipher, struct run input, struct run output) {
+    uint8_t numbers[SIDES];
+    lend_all((struct lending[]){to_write("cipher", cipher), to_read("input", input), to_write("output", output)}, 3);
+    numbers[LIBRARY] = semivrakh_cipher_encipher(lent(LIBRARY, 0), cipher.count, lent(LIBRARY, 1), input.count,
+                                                 lent(LIBRARY, 2), output.count);
+    numbers[MODEL] = model_cipher_encipher(lent(MODEL, 0), cipher.count, lent(MODEL, 1), input.count,
+                                           lent(MODEL, 2), output.count);
+    return settle(CIPHER_ENCIPHER, numbers);
+}
+
+uint8_t compare_pack_open(struct run file, struct run ring, struct run samples, struct run answer) {
+    uint8_t numbers[SIDES];
+    lend_all((struct lending[]){to_read("file", file), to_read("ring", ring),
+                                lend("samples", samples, sizeof(int16_t), true),
+                                lend("answer", answer, sizeof(size_t), true)}, 4);
+    numbers[LIBRARY] = semivrakh_pack_open(lent(LIBRARY, 0), file.count, lent(LIBRARY, 1), ring.count,
+                                           lent(LIBRARY, 2), samples.count, lent(LIBRARY, 3), answer.count);
+    numbers[MODEL] = model_pack_open(lent(MODEL, 0), file.count, lent(MODEL, 1), ring.count,
+                                     lent(MODEL, 2), samples.count, lent(MODEL, 3), answer.count);
+    return settle(PACK_OPEN, numbers);
+}
+
+uint8_t compare_pack_seal(const struct sealing *sealing) {
+    uint8_t numbers[SIDES];
+    lend_all((struct lending[]){to_read("name", sealing->name), to_read("ring", sealing->ring),
+                                to_read("value", sealing->value),
+                                lend("samples", sealing->samples, sizeof(int16_t), false),
+                                lend("loops", sealing->loops, sizeof(uint32_t), false),
+                                to_write("output", sealing->output), number_to_write("file_length")}, 7);
+    numbers[LIBRARY] = semivrakh_pack_seal(
+        lent(LIBRARY, 0), sealing->name.count, lent(LIBRARY, 1), sealing->ring.count, sealing->key_number,
+        lent(LIBRARY, 2), sealing->value.count, lent(LIBRARY, 3), sealing->samples.count,
+        lent(LIBRARY, 4), sealing->loops.count, lent(LIBRARY, 5), sealing->output.count, lent(LIBRARY, 6));
+    numbers[MODEL] = model_pack_seal(
+        lent(MODEL, 0), sealing->name.count, lent(MODEL, 1), sealing->ring.count, sealing->key_number,
+        lent(MODEL, 2), sealing->value.count, lent(MODEL, 3), sealing->samples.count,
+        lent(MODEL, 4), sealing->loops.count, lent(MODEL, 5), sealing->output.count, lent(MODEL, 6));
+    return settle(PACK_SEAL, numbers);
+}
+
+uint8_t compare_sender_begin(struct run sender, struct run sound) {
+    uint8_t numbers[SIDES];
+    lend_all((struct lending[]){to_write("sender", sender), to_read("sound", sound)}, 2);
+    numbers[LIBRARY] = semivrakh_sender_begin(lent(LIBRARY, 0), sender.count, lent(LIBRARY, 1), sound.count);
+    numbers[MODEL] = model_sender_begin(lent(MODEL, 0), sender.count, lent(MODEL, 1), sound.count);
+    return settle(SENDER_BEGIN, numbers);
+}
+
+uint8_t compare_sender_send(struct run sender, struct run sound, struct run frame) {
+    uint8_t numbers[SIDES];
+    lend_all((struct lending[]){to_read("sender", sender), to_read("sound", sound), to_write("frame", frame),
+                                number_to_write("frame_length")}, 4);
+    numbers[LIBRARY] = semivrakh_sender_send(lent(LIBRARY, 0), sender.count, lent(LIBRARY, 1), sound.count,
+                                             lent(LIBRARY, 2), frame.count, lent(LIBRARY, 3));
+    numbers[MODEL] = model_sender_send(lent(MODEL, 0), sender.count, lent(MODEL, 1), sound.count,
+                                       lent(MODEL, 2), frame.count, lent(MODEL, 3));
+    return settle(SENDER_SEND, numbers);
+}
+
+uint8_t compare_sender_hear(struct run sender, struct run frame) {
+    uint8_t numbers[SIDES];
+    lend_all((struct lending[]){to_write("sender", sender), to_read("frame", frame)}, 2);
+    numbers[LIBRARY] = semivrakh_sender_hear(lent(LIBRARY, 0), sender.count, lent(LIBRARY, 1), frame.count);
+    numbers[MODEL] = model_sender_hear(lent(MODEL, 0), sender.count, lent(MODEL, 1), frame.count);
+    return settle(SENDER_HEAR, numbers);
+}
+
+uint8_t compare_receiver_hear(struct run receiver, struct run frame, struct run sound, struct run answer) {
+    uint8_t numbers[SIDES];
+    lend_all((struct lending[]){to_write("receiver", receiver), to_read("frame", frame), to_write("sound", sound),
+                                to_write("answer", answer), number_to_write("answer_length")}, 5);
+    numbers[LIBRARY] = semivrakh_receiver_hear(lent(LIBRARY, 0), receiver.count, lent(LIBRARY, 1), frame.count,
+                                               lent(LIBRARY, 2), sound.count, lent(LIBRARY, 3), answer.count,
+                                               lent(LIBRARY, 4));
+    numbers[MODEL] = model_receiver_hear(lent(MODEL, 0), receiver.count, lent(MODEL, 1), frame.count,
+                                         lent(MODEL, 2), sound.count, lent(MODEL, 3), answer.count, lent(MODEL, 4));
+    return settle(RECEIVER_HEAR, numbers);
+}

@@ -1,0 +1,44 @@
+/* A comparison for each call of the header. What its buffers hold then, after() tells, in the order of lending. */
+#ifndef CALLS_H
+#define CALLS_H
+
+#include <stddef.h>
+#include <stdint.h>
+
+/* A run of elements to be lent; content NULL stands for any bytes. */
+struct run {
+    const void *content;
+    size_t count;
+};
+
+static inline struct run run_of(const void *content, size_t count) {
+    return (struct run){content, count};
+}
+
+/* Room for `count` elements, that hold anything. */
+static inline struct run room(size_t count) {
+    return (struct run){NULL, count};
+}
+
+uint8_t compare_cipher_make(struct run cipher, struct run key, struct run value);
+uint8_t compare_cipher_encipher(struct run cipher, struct run input, struct run output);
+uint8_t compare_pack_open(struct run file, struct run ring, struct run samples, struct run answer);
+
+struct sealing {
+    struct run name, ring;
+    uint8_t key_number;
+    struct run value, samples, loops, output;
+};
+
+/* After it, the output has index SEALED_OUTPUT and the file's length SEALED_LENGTH. */
+enum { SEALED_OUTPUT = 5, SEALED_LENGTH = 6 };
+uint8_t compare_pack_seal(const struct sealing *sealing);
+
+uint8_t compare_sender_make(struct run sender, struct run key, struct run pair);
+uint8_t compare_sender_begin(struct run sender, struct run sound);
+uint8_t compare_sender_send(struct run sender, struct run sound, struct run frame);
+uint8_t compare_sender_hear(struct run sender, struct run frame);
+uint8_t compare_receiver_make(struct run receiver, struct run key, struct run pair);
+uint8_t compare_receiver_hear(struct run receiver, struct run frame, struct run sound, struct run answer);
+
+#endif

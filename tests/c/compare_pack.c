@@ -1,0 +1,286 @@
+/* Input for opening and sealing packs. */
+#include <string.h>
+
+#include "calls.h"
+#include "families.h"
+#include "faults.h"
+#include "model.h"
+#include "random.h"
+
+enum { NAME_ROOM = 256, LOOPS_ROOM = 256, EXTRA_MOST = 40 };
+enum { FILE_ROOM = 1 + NAME_ROOM + 12 + 4 + 2 * (SEMIVRAKH_SAMPLES_MOST + 8) + 1 + 8 * LOOPS_ROOM + EXTRA_MOST };
+
+/* The parts of a pack, in rule or not. */
+struct parts {
+    uint8_t name[NAME_ROOM];
+    size_t name_length;
+    uint8_t key_count, key_number, value[10];
+    uint32_t claimed_samples; /* what the count says */
+    size_t samples;           /* how many follow */
+    uint32_t loops[2 * LOOPS_ROOM];
+    size_t loop_numbers;
+    size_t extra;
+};
+
+static struct parts parts;
+static uint8_t file[FILE_ROOM];
+static size_t file_length;
+
+/* Loops in rule, among at least one sample. */
+static void choose_loops(size_t numbers, uint32_t samples) {
+    parts.loop_numbers = numbers;
+    for (size_t i = 0; i < numbers; i += 2) {
+        uint32_t end = random_once_in(3) ? samples : random_between(1, samples);
+        parts.loops[i] = random_once_in(3) ? end - 1 : random_below(end);
+        parts.loops[i + 1] = end;
+    }
+}
+
+static void choose_name(size_t length) {
+    parts.name_length = length;
+    for (size_t i = 0; i < length; i++) parts.name[i] = (uint8_t)random_between(32, 126);
+    if (length > 0 && random_once_in(4)) parts.name[random_below((uint32_t)length)] = random_once_in(2) ? 32 : 126;
+}
+
+static void choose_parts(size_t name_length, size_t samples, size_t loops) {
+    choose_name(name_length);
+    parts.key_count = 11;
+    parts.key_number = (uint8_t)random_below(4);
+    memcpy(parts.value, noise(10), 10);
+    parts.claimed_samples = (uint32_t)samples;
+    parts.samples = samples;
+    choose_loops(samples == 0 ? 0 : 2 * loops, (uint32_t)samples);
+    parts.extra = 0;
+}
+
+static void choose_small_parts(void) {
+    choose_parts(random_between(1, 6), random_between(1, 5), random_between(1, 3));
+}
+
+static void spoil_name(void) {
+    static const uint8_t outside[] = {31, 127, 0, 255, 128, 10};
+    size_t place = random_once_in(3) ? parts.name_length - 1 : random_below((uint32_t)parts.name_length);
+    parts.name[place] = outside[random_below(sizeof outside)];
+}
+
+static void spoil_loop(uint32_t samples) {
+    uint32_t *loop = parts.loops + 2 * random_below((uint32_t)(parts.loop_numbers / 2));
+    switch (random_below(5)) {
+        case 0: loop[0] = loop[1]; break;
+        case 1: loop[0] = loop[1] + random_between(1, 9); break;
+        case 2: loop[1] = samples + 1; break;
+        case 3: loop[1] = UINT32_MAX - random_below(2); break;
+        default: loop[0] = loop[1] = 0; break;
+    }
+}
+
+static size_t put_number(size_t at, size_t bytes, uint32_t number) {
+    model_write_number(file + at, bytes, number);
+    return at + bytes;
+}
+
+static size_t put_bytes(size_t at, const uint8_t *bytes, size_t count) {
+    memcpy(file + at, bytes, count);
+    return at + count;
+}
+
+static void write_file(void) {
+    size_t at = put_number(0, 1, (uint32_t)parts.name_length);
+    at = put_bytes(at, parts.name, parts.name_length);
+    at = put_number(at, 1, parts.key_count);
+    at = put_number(at, 1, parts.key_number);
+    at = put_bytes(at, parts.value, 10);
+    at = put_number(at, 4, parts.claimed_samples);
+    at = put_bytes(at, noise(2 * parts.samples), 2 * parts.samples);
+    at = put_number(at, 1, (uint32_t)(parts.loop_numbers / 2));
+    for (size_t i = 0; i < parts.loop_numbers; i++) at = put_number(at, 4, parts.loops[i]);
+    file_length = put_bytes(at, noise(parts.extra), parts.extra);
+}
+
+static void claim_many_samples(void) {
+    static const uint32_t too_many[] = {16385, 16386, 32768, 65536, 0x80000000, 0x80000001, UINT32_MAX};
+    parts.claimed_samples = too_many[random_below(sizeof too_many / sizeof *too_many)];
+    if (parts.claimed_samples == 16385 && random_once_in(4)) parts.samples = 16385;
+}
+
+static void open_with(faults set) {
+    size_t sample_room, answer_room = enough(7);
+    choose_small_parts();
+    if (has(set, 11)) choose_name(random_once_in(2) ? 33 : random_between(34, 255));
+    if (has(set, 12)) spoil_name();
+    if (has(set, 13)) parts.key_count = (uint8_t)(random_once_in(2) ? random_below(11) : random_between(12, 255));
+    if (has(set, 14)) parts.key_number = (uint8_t)(random_once_in(2) ? 4 : random_between(5, 255));
+    if (has(set, 15)) claim_many_samples();
+    if (has(set, 16)) choose_loops(2 * (random_once_in(2) ? 9 : random_between(10, 255)), (uint32_t)parts.samples);
+    if (has(set, 17)) spoil_loop((uint32_t)parts.samples);
+    if (has(set, 18)) parts.extra = random_once_in(2) ? 1 : random_between(2, EXTRA_MOST);
+    sample_room = enough(parts.samples);
+    if (has(set, 19)) {
+        if (random_once_in(2)) sample_room = shorter_than(parts.samples);
+        else answer_room = shorter_than(7);
+    }
+    write_file();
+    plan_first(PACK_OPEN, set);
+    compare_pack_open(run_of(file, file_length), room(has(set, 1) ? wrong_length(40) : 40), room(sample_room),
+                      room(answer_room));
+}
+
+/* A file that ends early is refused by where it ends, so 10 is left to damaged_packs. */
+void opening_packs(void) {
+    with_each_fault_set(PACK_OPEN, fault(10), open_with);
+}
+
+static void open_file(void) {
+    compare_pack_open(run_of(file, file_length), room(40), room(enough(parts.samples)), room(enough(7)));
+}
+
+static void open_every_front(void) {
+    size_t whole = file_length;
+    for (file_length = 0; file_length < whole; file_length++) {
+        plan_number(10);
+        open_file();
+    }
+}
+
+static void open_lengthened(void) {
+    size_t whole = file_length;
+    for (size_t more = 1; more <= 3; more++) {
+        file[whole + more - 1] = (uint8_t)random_next();
+        file_length = whole + more;
+        plan_number(18);
+        open_file();
+    }
+    file_length = whole;
+}
+
+void damaged_packs(void) {
+    size_t samples = random_below(5);
+    choose_parts(random_below(6), samples, random_below(3));
+    write_file();
+    plan_number(0);
+    open_file();
+    open_every_front();
+    open_lengthened();
+    file_length -= random_once_in(2) ? 0 : random_below((uint32_t)file_length);
+    with_each_byte_damaged(file, file_length, open_file);
+}
+
+/* Opens what was sealed, and looks whether the parts come back. */
+static void open_again(const struct sealing *sealing, const int16_t *samples) {
+    size_t answer[7];
+    file_length = *(const size_t *)after(SEALED_LENGTH);
+    memcpy(file, after(SEALED_OUTPUT), file_length);
+    plan_number(0);
+    compare_pack_open(run_of(file, file_length), sealing->ring, room(enough(sealing->samples.count)), room(7));
+    memcpy(answer, after(3), sizeof answer);
+    if (memcmp(after(2), samples, 2 * sealing->samples.count) != 0) differ("a sealed sound opens as another");
+    if (answer[SEMIVRAKH_OPENED_SAMPLES] != sealing->samples.count
+        || answer[SEMIVRAKH_OPENED_LOOPS] != sealing->loops.count / 2
+        || answer[SEMIVRAKH_OPENED_KEY] != sealing->key_number
+        || answer[SEMIVRAKH_OPENED_NAME_LENGTH] != sealing->name.count) {
+        differ("a sealed pack opens with other counts");
+    }
+    if (memcmp(file + answer[SEMIVRAKH_OPENED_NAME_AT], parts.name, parts.name_length) != 0
+        || memcmp(file + answer[SEMIVRAKH_OPENED_VALUE_AT], parts.value, 10) != 0) {
+        differ("a sealed pack has its name or value elsewhere");
+    }
+}
+
+static size_t sealed_length(void) {
+    return 18 + parts.name_length + 2 * parts.samples + 4 * parts.loop_numbers;
+}
+
+/* Words at the edges of their range among random ones. */
+static void choose_samples(int16_t *samples, size_t count) {
+    static const int16_t edges[] = {-32768, -32767, -257, -256, -2, -1, 0, 1, 128, 255, 256, 32766, 32767};
+    memcpy(samples, noise(2 * count), 2 * count);
+    for (size_t i = 0; i < count && i < 8; i++) {
+        if (random_once_in(2)) samples[i] = edges[random_below(sizeof edges / sizeof *edges)];
+    }
+}
+
+static void seal_parts(size_t value_length, size_t ring_length, size_t output_length, faults set) {
+    static int16_t samples[SEMIVRAKH_SAMPLES_MOST + EXTRA_MOST];
+    static uint8_t ring[2 * 40 + 300];
+    choose_samples(samples, parts.samples);
+    memcpy(ring, noise(sizeof ring), sizeof ring);
+    struct sealing sealing = {
+        .name = run_of(parts.name, parts.name_length),
+        .ring = run_of(ring, ring_length),
+        .key_number = parts.key_number,
+        .value = value_length == 10 ? run_of(parts.value, 10) : room(value_length),
+        .samples = run_of(samples, parts.samples),
+        .loops = run_of(parts.loops, parts.loop_numbers),
+        .output = room(output_length),
+    };
+    plan_first(PACK_SEAL, set);
+    if (compare_pack_seal(&sealing) == 0) open_again(&sealing, samples);
+}
+
+static void seal_with(faults set) {
+    choose_small_parts();
+    if (has(set, 11)) choose_name(random_once_in(2) ? 33 : random_between(34, 255));
+    if (has(set, 12)) spoil_name();
+    if (has(set, 14)) parts.key_number = (uint8_t)(random_once_in(2) ? 4 : random_between(5, 255));
+    if (has(set, 15)) parts.samples = SEMIVRAKH_SAMPLES_MOST + random_between(1, EXTRA_MOST);
+    size_t many = random_once_in(2) ? 18 : random_between(19, 2 * LOOPS_ROOM);
+    if (has(set, 16)) choose_loops(many, (uint32_t)parts.samples);
+    if (has(set, 17)) spoil_loop((uint32_t)parts.samples);
+    if (has(set, 16) && random_once_in(2)) parts.loop_numbers = 2 * random_below(9) + 1;
+    seal_parts(has(set, 2) ? wrong_length(10) : 10, has(set, 1) ? wrong_length(40) : 40,
+               has(set, 19) ? shorter_than(sealed_length()) : enough(sealed_length()), set);
+}
+
+void sealing_packs(void) {
+    with_each_fault_set(PACK_SEAL, 0, seal_with);
+}
+
+static void seal_shape(size_t name_length, size_t samples, size_t loops) {
+    choose_parts(name_length, samples, loops);
+    seal_parts(10, 40, enough(sealed_length()), name_length > SEMIVRAKH_NAME_MOST ? fault(11) : 0);
+}
+
+void packs_of_all_shapes(void) {
+    for (size_t name_length = 0; name_length <= SEMIVRAKH_NAME_MOST + 2; name_length++) {
+        seal_shape(name_length, random_below(4), random_between(0, 8));
+    }
+    for (size_t loops = 0; loops <= SEMIVRAKH_LOOPS_MOST; loops++) {
+        seal_shape(random_below(33), random_between(1, 40), loops);
+    }
+}
+
+static void open_with_one_change(void) {
+    size_t whole = file_length, place = random_below((uint32_t)file_length);
+    uint8_t right = file[place];
+    file[place] = (uint8_t)random_next();
+    open_file();
+    file[place] = right;
+    file_length = place;
+    plan_number(10);
+    open_file();
+    file_length = whole;
+}
+
+/* The cipher's chunks inside are no rule of the paper, so sizes around powers of two come too. */
+void large_packs(void) {
+    static const uint32_t sizes[] = {127, 128, 129, 255, 256, 257, 511, 512, 513, 1000};
+    bool largest = random_once_in(8);
+    size_t samples = sizes[random_below(sizeof sizes / sizeof *sizes)];
+    if (largest) samples = SEMIVRAKH_SAMPLES_MOST - random_below(2);
+    seal_shape(random_below(33), samples, random_below(9));
+    open_with_one_change();
+    for (int i = 0; !largest && i < 5; i++) open_with_one_change();
+}
+
+void random_packs(void) {
+    for (int i = 0; i < 20; i++) {
+        compare_pack_open(room(random_below(100)), room(40), room(random_below(50)), room(7));
+        file_length = random_below(100);
+        memcpy(file, noise(file_length), file_length);
+        file[0] = 0;
+        file[1] = 11;
+        file[2] &= 3;
+        memset(file + 13, 0, 4);
+        compare_pack_open(run_of(file, file_length), room(40), room(random_below(50)), room(7));
+    }
+}

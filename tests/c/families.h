@@ -1,0 +1,30 @@
+/* The families of generated input. Each call makes some dozens to some hundreds of comparisons. */
+#ifndef FAMILIES_H
+#define FAMILIES_H
+
+void making_ciphers(void);
+void enciphering(void);
+void streams_in_pieces(void);
+void damaged_ciphers(void);
+void random_cipher_input(void);
+
+void sealing_packs(void);
+void opening_packs(void);
+void packs_of_all_shapes(void);
+void large_packs(void);
+void damaged_packs(void);
+void random_packs(void);
+
+void making_ends(void);
+void beginning(void);
+void sending(void);
+void sender_hearing(void);
+void receiver_hearing(void);
+void damaged_sender(void);
+void damaged_receiver(void);
+void all_records_at_the_edges(void);
+void some_records_at_the_edges(void);
+void random_link_input(void);
+void whole_transfers(void);
+
+#endif

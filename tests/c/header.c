@@ -1,0 +1,2 @@
+/* The header by itself, as C. */
+#include "semivrakh.h"

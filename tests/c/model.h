@@ -1,0 +1,122 @@
+/*
+ * A second, independent reading of the papers in plain C: slow, and as near to their wording as it can be. The drivers
+ * hold the library to it. Each call is that of semivrakh.h, with its own prefix.
+ */
+#ifndef MODEL_H
+#define MODEL_H
+
+#include <stdbool.h>
+#include <stddef.h>
+#include <stdint.h>
+
+#include "semivrakh.h"
+
+/* Why a call says no. The number of each stands in model_rules, so that a test of the test can change one. */
+enum model_reason {
+    MODEL_BAD_KEY,
+    MODEL_BAD_VALUE,
+    MODEL_NOT_A_CIPHER,
+    MODEL_CUT_SHORT,
+    MODEL_LONG_NAME,
+    MODEL_BAD_NAME,
+    MODEL_BAD_KEY_COUNT,
+    MODEL_BAD_KEY_NUMBER,
+    MODEL_MANY_SAMPLES,
+    MODEL_MANY_LOOPS,
+    MODEL_BAD_LOOP,
+    MODEL_MORE_BYTES,
+    MODEL_NO_ROOM,
+    MODEL_NO_SESSION,
+    MODEL_LONG_SOUND,
+    MODEL_NO_TRANSFER,
+    MODEL_WRONG_SOUND,
+    MODEL_NOT_A_FRAME,
+    MODEL_OTHER_SESSION,
+    MODEL_IMPOSSIBLE,
+    MODEL_OUT_OF_RULE,
+    MODEL_REASONS
+};
+
+/* How far back a register is read: `near` and `oldest` go to the output and on to the next register, where the product
+ * of the two factors goes too; `own` comes back to the register itself. */
+struct model_taps {
+    unsigned near, oldest, factor, other_factor, own;
+};
+
+enum { MODEL_A, MODEL_B, MODEL_C, MODEL_REGISTERS };
+
+struct model_rules {
+    struct model_taps taps[MODEL_REGISTERS];
+    uint8_t number[MODEL_REASONS];
+};
+
+extern struct model_rules model_rules;
+
+/* Trivium, one bit a step. A register is a window that moves along its sequence of bits; `next` is where the coming bit
+ * will stand, so the bit k steps back is bits[next - k]. */
+enum { MODEL_WINDOW = 4096 };
+
+struct model_register {
+    unsigned next;
+    uint8_t bits[MODEL_WINDOW];
+};
+
+struct model_trivium {
+    struct model_register registers[MODEL_REGISTERS];
+};
+
+void model_trivium_load(struct model_trivium *trivium, const uint8_t key[10], const uint8_t value[10]);
+void model_trivium_step(struct model_trivium *trivium);
+void model_trivium_warm_up(struct model_trivium *trivium);
+unsigned model_trivium_output(const struct model_trivium *trivium);
+uint8_t model_trivium_next_byte(struct model_trivium *trivium);
+/* The bit k steps back of a register, 1 being the newest. */
+unsigned model_trivium_bit(const struct model_trivium *trivium, int which, unsigned k);
+unsigned model_width(int which);
+
+/* Numbers of several bytes, the most significant first. */
+uint32_t model_number_at(const uint8_t *bytes, size_t count);
+void model_write_number(uint8_t *bytes, size_t count, uint32_t number);
+
+uint8_t model_no(enum model_reason reason);
+size_t model_blocks(size_t sound_length);
+
+uint8_t model_cipher_make(uint8_t *cipher, size_t cipher_length,
+                          const uint8_t *key, size_t key_length,
+                          const uint8_t *value, size_t value_length);
+uint8_t model_cipher_encipher(uint8_t *cipher, size_t cipher_length,
+                              const uint8_t *input, size_t input_length,
+                              uint8_t *output, size_t output_length);
+uint8_t model_pack_open(const uint8_t *file, size_t file_length,
+                        const uint8_t *ring, size_t ring_length,
+                        int16_t *samples, size_t sample_room,
+                        size_t *answer, size_t answer_room);
+uint8_t model_pack_seal(const uint8_t *name, size_t name_length,
+                        const uint8_t *ring, size_t ring_length,
+                        uint8_t key_number,
+                        const uint8_t *value, size_t value_length,
+                        const int16_t *samples, size_t sample_count,
+                        const uint32_t *loops, size_t loop_numbers,
+                        uint8_t *output, size_t output_length,
+                        size_t *file_length);
+uint8_t model_sender_make(uint8_t *sender, size_t sender_length,
+                          const uint8_t *key, size_t key_length,
+                          const uint8_t *pair, size_t pair_length);
+uint8_t model_sender_begin(uint8_t *sender, size_t sender_length,
+                           const uint8_t *sound, size_t sound_length);
+uint8_t model_sender_send(const uint8_t *sender, size_t sender_length,
+                          const uint8_t *sound, size_t sound_length,
+                          uint8_t *frame, size_t frame_room,
+                          size_t *frame_length);
+uint8_t model_sender_hear(uint8_t *sender, size_t sender_length,
+                          const uint8_t *frame, size_t frame_length);
+uint8_t model_receiver_make(uint8_t *receiver, size_t receiver_length,
+                            const uint8_t *key, size_t key_length,
+                            const uint8_t *pair, size_t pair_length);
+uint8_t model_receiver_hear(uint8_t *receiver, size_t receiver_length,
+                            const uint8_t *frame, size_t frame_length,
+                            uint8_t *sound, size_t sound_length,
+                            uint8_t *answer, size_t answer_room,
+                            size_t *answer_length);
+
+#endif

@@ -1,0 +1,189 @@
+/* Packs: opening as a reader that goes through the file front to back, sealing as a writer that does the same. */
+#include <string.h>
+
+#include "model.h"
+
+enum { RING_BYTES = 40, KEY_COUNT = 11, KEYS = 4, LOOP_BYTES = 8 };
+
+/* Where the reader stands, and the first thing that it found wrong. */
+struct reader {
+    const uint8_t *file;
+    size_t length, at;
+    uint8_t refusal;
+};
+
+static void refuse(struct reader *reader, enum model_reason reason) {
+    if (reader->refusal == 0) reader->refusal = model_no(reason);
+}
+
+/* The next bytes of the file, or NULL if they aren't all there. */
+static const uint8_t *take(struct reader *reader, size_t count) {
+    if (reader->refusal != 0) return NULL;
+    if (reader->length - reader->at < count) {
+        refuse(reader, MODEL_CUT_SHORT);
+        return NULL;
+    }
+    reader->at += count;
+    return reader->file + reader->at - count;
+}
+
+static uint32_t take_count(struct reader *reader, size_t bytes) {
+    const uint8_t *count = take(reader, bytes);
+    return count == NULL ? 0 : model_number_at(count, bytes);
+}
+
+static bool name_byte_allowed(uint8_t byte) {
+    return byte >= 32 && byte <= 126;
+}
+
+static bool loop_allowed(uint32_t start, uint32_t end, size_t samples) {
+    return start < end && end <= samples;
+}
+
+static void read_name(struct reader *reader, size_t *length, size_t *at) {
+    *length = take_count(reader, 1);
+    if (*length > SEMIVRAKH_NAME_MOST) refuse(reader, MODEL_LONG_NAME);
+    *at = reader->at;
+    const uint8_t *name = take(reader, *length);
+    for (size_t i = 0; name != NULL && i < *length; i++) {
+        if (!name_byte_allowed(name[i])) refuse(reader, MODEL_BAD_NAME);
+    }
+}
+
+static void read_key(struct reader *reader, size_t *key_number, size_t *value_at) {
+    if (take_count(reader, 1) != KEY_COUNT) refuse(reader, MODEL_BAD_KEY_COUNT);
+    const uint8_t *body = take(reader, KEY_COUNT);
+    if (body == NULL) return;
+    *key_number = body[0];
+    *value_at = reader->at - 10;
+    if (*key_number >= KEYS) refuse(reader, MODEL_BAD_KEY_NUMBER);
+}
+
+static const uint8_t *read_samples(struct reader *reader, size_t *count) {
+    *count = take_count(reader, 4);
+    if (*count > SEMIVRAKH_SAMPLES_MOST) refuse(reader, MODEL_MANY_SAMPLES);
+    return take(reader, 2 * *count);
+}
+
+static void read_loops(struct reader *reader, size_t samples, size_t *count, size_t *at) {
+    *count = take_count(reader, 1);
+    if (*count > SEMIVRAKH_LOOPS_MOST) refuse(reader, MODEL_MANY_LOOPS);
+    *at = reader->at;
+    const uint8_t *loops = take(reader, LOOP_BYTES * *count);
+    for (size_t i = 0; loops != NULL && i < *count; i++) {
+        const uint8_t *loop = loops + LOOP_BYTES * i;
+        if (!loop_allowed(model_number_at(loop, 4), model_number_at(loop + 4, 4), samples)) {
+            refuse(reader, MODEL_BAD_LOOP);
+        }
+    }
+}
+
+static void start_cipher(struct model_trivium *trivium, const uint8_t *ring, size_t key_number, const uint8_t *value) {
+    model_trivium_load(trivium, ring + 10 * key_number, value);
+    model_trivium_warm_up(trivium);
+}
+
+/* Two plain bytes as a signed word: from 32,768 on, the numbers below zero. */
+static int16_t signed_word(unsigned high, unsigned low) {
+    int word = (int)(256 * high + low);
+    return (int16_t)(word >= 32768 ? word - 65536 : word);
+}
+
+uint8_t model_pack_open(const uint8_t *file, size_t file_length,
+                        const uint8_t *ring, size_t ring_length,
+                        int16_t *samples, size_t sample_room,
+                        size_t *answer, size_t answer_room) {
+    struct reader reader = {.file = file, .length = file_length};
+    size_t name_length = 0, name_at = 0, key_number = 0, value_at = 0, count = 0, loops = 0, loops_at = 0;
+    if (ring_length != RING_BYTES) return model_no(MODEL_BAD_KEY);
+    read_name(&reader, &name_length, &name_at);
+    read_key(&reader, &key_number, &value_at);
+    const uint8_t *enciphered = read_samples(&reader, &count);
+    read_loops(&reader, count, &loops, &loops_at);
+    if (reader.at != file_length) refuse(&reader, MODEL_MORE_BYTES);
+    if (sample_room < count || answer_room < SEMIVRAKH_OPENED_NUMBERS) refuse(&reader, MODEL_NO_ROOM);
+    if (reader.refusal != 0) return reader.refusal;
+
+    struct model_trivium trivium;
+    start_cipher(&trivium, ring, key_number, file + value_at);
+    for (size_t i = 0; i < count; i++) {
+        unsigned high = enciphered[2 * i] ^ model_trivium_next_byte(&trivium);
+        unsigned low = enciphered[2 * i + 1] ^ model_trivium_next_byte(&trivium);
+        samples[i] = signed_word(high, low);
+    }
+    answer[SEMIVRAKH_OPENED_SAMPLES] = count;
+    answer[SEMIVRAKH_OPENED_KEY] = key_number;
+    answer[SEMIVRAKH_OPENED_LOOPS] = loops;
+    answer[SEMIVRAKH_OPENED_NAME_LENGTH] = name_length;
+    answer[SEMIVRAKH_OPENED_NAME_AT] = name_at;
+    answer[SEMIVRAKH_OPENED_VALUE_AT] = value_at;
+    answer[SEMIVRAKH_OPENED_LOOPS_AT] = loops_at;
+    return 0;
+}
+
+static bool name_allowed(const uint8_t *name, size_t length) {
+    for (size_t i = 0; i < length; i++) {
+        if (!name_byte_allowed(name[i])) return false;
+    }
+    return true;
+}
+
+static bool loops_allowed(const uint32_t *loops, size_t numbers, size_t samples) {
+    for (size_t i = 0; i < numbers; i += 2) {
+        if (!loop_allowed(loops[i], loops[i + 1], samples)) return false;
+    }
+    return true;
+}
+
+struct writer {
+    uint8_t *output;
+    size_t at;
+};
+
+static void put_number(struct writer *writer, size_t bytes, uint32_t number) {
+    model_write_number(writer->output + writer->at, bytes, number);
+    writer->at += bytes;
+}
+
+static void put_bytes(struct writer *writer, const uint8_t *bytes, size_t count) {
+    for (size_t i = 0; i < count; i++) put_number(writer, 1, bytes[i]);
+}
+
+uint8_t model_pack_seal(const uint8_t *name, size_t name_length,
+                        const uint8_t *ring, size_t ring_length,
+                        uint8_t key_number,
+                        const uint8_t *value, size_t value_length,
+                        const int16_t *samples, size_t sample_count,
+                        const uint32_t *loops, size_t loop_numbers,
+                        uint8_t *output, size_t output_length,
+                        size_t *file_length) {
+    if (ring_length != RING_BYTES) return model_no(MODEL_BAD_KEY);
+    if (name_length > SEMIVRAKH_NAME_MOST) return model_no(MODEL_LONG_NAME);
+    if (!name_allowed(name, name_length)) return model_no(MODEL_BAD_NAME);
+    if (value_length != 10) return model_no(MODEL_BAD_VALUE);
+    if (key_number >= KEYS) return model_no(MODEL_BAD_KEY_NUMBER);
+    if (sample_count > SEMIVRAKH_SAMPLES_MOST) return model_no(MODEL_MANY_SAMPLES);
+    if (loop_numbers > 2 * SEMIVRAKH_LOOPS_MOST || loop_numbers % 2 != 0) return model_no(MODEL_MANY_LOOPS);
+    if (!loops_allowed(loops, loop_numbers, sample_count)) return model_no(MODEL_BAD_LOOP);
+    size_t length = (1 + name_length) + (1 + KEY_COUNT) + (4 + 2 * sample_count) + (1 + 4 * loop_numbers);
+    if (output_length < length) return model_no(MODEL_NO_ROOM);
+
+    struct writer writer = {.output = output};
+    put_number(&writer, 1, (uint32_t)name_length);
+    put_bytes(&writer, name, name_length);
+    put_number(&writer, 1, KEY_COUNT);
+    put_number(&writer, 1, key_number);
+    put_bytes(&writer, value, 10);
+    put_number(&writer, 4, (uint32_t)sample_count);
+    struct model_trivium trivium;
+    start_cipher(&trivium, ring, key_number, value);
+    for (size_t i = 0; i < sample_count; i++) {
+        unsigned word = samples[i] < 0 ? (unsigned)(samples[i] + 65536) : (unsigned)samples[i];
+        put_number(&writer, 1, (word / 256) ^ model_trivium_next_byte(&trivium));
+        put_number(&writer, 1, (word % 256) ^ model_trivium_next_byte(&trivium));
+    }
+    put_number(&writer, 1, (uint32_t)(loop_numbers / 2));
+    for (size_t i = 0; i < loop_numbers; i++) put_number(&writer, 4, loops[i]);
+    *file_length = writer.at;
+    return 0;
+}
