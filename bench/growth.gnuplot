@@ -1,0 +1,19 @@
+# Draws the growth table `data` as the picture `picture`.
+set terminal pngcairo size 1200,720 font "DejaVu Sans,13"
+set output picture
+set datafile separator tab
+set title "Time per byte as the input grows"
+set xlabel "bytes enciphered in one call; both axes logarithmic"
+set ylabel "time per byte, over that at 32 KiB"
+set logscale x 2
+set logscale y 2
+set xtics ("64 B" 2**6, "256 B" 2**8, "1 KiB" 2**10, "4 KiB" 2**12, "16 KiB" 2**14, \
+           "64 KiB" 2**16, "256 KiB" 2**18, "1 MiB" 2**20)
+set xrange [2**5.5:2**20.5]
+set yrange [0.5:*]
+set grid
+set key top right Left reverse box width 1 height 0.5
+# Sealing and opening lie close together: hollow marks around smaller filled ones keep both in sight.
+plot data using 1:4 with linespoints lw 2 pt 4 ps 2.2 lc rgb "#b2182b" title "seal a pack (makes its cipher too)", \
+     data using 1:3 with linespoints lw 2 pt 7 ps 1.1 dt 2 lc rgb "#2166ac" title "open a pack (makes its cipher too)", \
+     data using 1:2 with linespoints lw 2 pt 9 ps 1.4 lc rgb "#1b7837" title "encipher, on a cipher made before"

@@ -1,0 +1,17 @@
+/* Two pieces of work against each other. */
+#ifndef TIMING_H
+#define TIMING_H
+
+struct work {
+    void (*once)(void *with);
+    void *with;
+};
+
+struct comparison {
+    double ratio;  /* the least time of the first for one call, over the least time of the second */
+    double spread; /* how far the median lies above the least time, as their ratio: the larger of both sides' */
+};
+
+struct comparison compare(struct work first, struct work second);
+
+#endif
