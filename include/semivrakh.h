@@ -17,10 +17,10 @@
  *
  * Records
  *
- *   A cipher, a sender and a receiver are runs of bytes that the caller keeps. They may be stored, copied and sent; they
- *   hold keys, so keep them as you keep keys. Numbers in them have their most significant byte first. Making writes a
- *   record to the front of any buffer that is long enough; every other call wants exactly the record's length, and
- *   refuses bytes that are no record, enciphering with 3 and the link's calls with 27.
+ *   A cipher, a sender and a receiver are runs of bytes that the caller keeps. They may be stored, copied and sent;
+ *   they hold keys, so keep them as you keep keys. Numbers in them have their most significant byte first. Making
+ *   writes a record to the front of any buffer that is long enough; every other call wants exactly the record's length,
+ *   and refuses bytes that are no record, enciphering with 3 and the link's calls with 27.
  *
  *   Cipher, 48 bytes: the registers a (93 bits), b (84) and c (111), each in 16 bytes as one number, its newest bit the
  *   lowest. The bits above a register are ignored, and come back zero from a call that isn't refused; so every 48
@@ -212,9 +212,9 @@ uint8_t semivrakh_pack_seal(const uint8_t *name, size_t name_length,
  *     if (semivrakh_receiver_hear(receiver, sizeof receiver, frame, length, room, sizeof room, answer, sizeof answer,
  *                                 &length) == 0) put_on_line(answer, length);
  *
- * A transfer ends with DONE, the receiver holding the whole sound, or with REFUSED_TOO_LONG. A frame that comes late, twice or
- * out of turn does no harm: it is refused, or it is no news. A pair of ends must be made fresh together, with the same
- * key and pair name, and neither may be set back to an older record.
+ * A transfer ends with DONE, the receiver holding the whole sound, or with REFUSED_TOO_LONG. A frame that comes late,
+ * twice or out of turn does no harm: it is refused, or it is no news. A pair of ends must be made fresh together, with
+ * the same key and pair name, and neither may be set back to an older record.
  */
 
 /* Makes a sender, idle, at the front of `sender`. Refuses, in order: 1, 2, 19 (fewer than 27 bytes for the record). */
@@ -223,8 +223,8 @@ uint8_t semivrakh_sender_make(uint8_t *sender, size_t sender_length,
                               const uint8_t *pair, size_t pair_length);
 
 /*
- * Begins to send a sound, of 0 to 32,768 bytes, under the next session, also over an unfinished transfer. The same sound
- * is lent again to each sending. Refuses, in order: 27, 21, 20.
+ * Begins to send a sound, of 0 to 32,768 bytes, under the next session, also over an unfinished transfer. The same
+ * sound is lent again to each sending. Refuses, in order: 27, 21, 20.
  */
 uint8_t semivrakh_sender_begin(uint8_t *sender, size_t sender_length,
                                const uint8_t *sound, size_t sound_length);

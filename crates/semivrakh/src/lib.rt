@@ -1,5 +1,5 @@
-// The C interface: thin functions over the proved libraries. Records travel as bytes that the caller keeps, and a refused
-// call writes nothing of all that it was lent.
+// The C interface: thin functions over the proved libraries, which include/semivrakh.h tells a C program about. Records travel as
+// bytes that the caller keeps, and a refused call writes nothing of all that it was lent.
 use pack::Opened;
 use receiver::Receiver;
 use sender::Sender;
