@@ -10,11 +10,12 @@ ghost use Rattle.pack.specs.Layout.{loopsGood};
 ghost use Rattle.pack.specs.Places.{foursAt};
 ghost use Rattle.pack.specs.Suite as Suite;
 ghost use Rattle.samples.specs.Words.{wordsOf};
-ghost use Rattle.trivium.specs.Calls.{skipping};
 ghost use Rattle.trivium.specs.Keystream.{keystream};
 ghost use Rattle.trivium.specs.Record.{state};
+ghost use Rattle.trivium.specs.Registers.{steps};
 use pack::Opened;
 use trivium::Registers;
+use trivium::Running;
 
 const ACCEPTED: u8 = 0;
 
@@ -197,31 +198,33 @@ pub fn survey(file: &[u8]) -> Opened
     }
 }
 
-// Four samples at their place: those that the eight bytes of a word are.
+// Four samples at their place: those that the eight bytes of a word are. The word is turned so that the compiler stores all four at once.
 fn put_four(output: &mut [i16], place: usize, word: u64)
     requires { ⌜ place + 4 ≤ length (now output) ⌝ }
     ensures { λ _. ⌜ now (output .exit) ≡ placed (now (output .entry)) place (wordsOf (digits 256 8 word)) ⌝ }
 {
-    let first = samples::word(((word >> 56) % 256) as u8, ((word >> 48) % 256) as u8);
-    let second = samples::word(((word >> 40) % 256) as u8, ((word >> 32) % 256) as u8);
-    let third = samples::word(((word >> 24) % 256) as u8, ((word >> 16) % 256) as u8);
-    let fourth = samples::word(((word >> 8) % 256) as u8, (word % 256) as u8);
+    let turned = samples::turned(word);
+    let first = samples::sample((turned % 65536) as u16);
+    let second = samples::sample(((turned >> 16) % 65536) as u16);
+    let third = samples::sample(((turned >> 32) % 65536) as u16);
+    let fourth = samples::sample(((turned >> 48) % 65536) as u16);
     output[place] = first;
     output[place + 1] = second;
     output[place + 2] = third;
     output[place + 3] = fourth;
 }
 
-// A chunk of the body from `at`, deciphered and read as samples to their place, by whole words: no byte is stored between.
-fn read_chunk(registers: Registers, body: &[u8], output: &mut [i16], at: usize) -> Registers
+// A chunk of the body from `at`, deciphered and read as samples to their place, by whole words: no byte is stored between. In this
+// order the compiler keeps the fewest values on the stack.
+fn read_chunk(running: Running, body: &[u8], output: &mut [i16], at: usize) -> Running
     requires { ⌜ (at + 16 ≤ length (now body)) × (at / 2 + 8 ≤ length (now output)) ⌝ }
-    ensures { λ r. ⌜ (r ≡ skipping registers 16)
-        × (now (output .exit) ≡ placed (now (output .entry)) (at / 2) (wordsOf (enciphered (keystream (state registers)) (take 16 (drop at (now (body .entry))))))) ⌝ }
+    ensures { λ r. ⌜ (state (r .registers) ≡ steps 128 (state (running .registers)))
+        × (now (output .exit) ≡ placed (now (output .entry)) (at / 2) (wordsOf (enciphered (keystream (state (running .registers))) (take 16 (drop at (now (body .entry))))))) ⌝ }
 {
     let place = at / 2;
+    let one = running.stride();
     let first = octets::number_at(body, at, 8);
     let second = octets::number_at(body, at + 8, 8);
-    let one = registers.stride();
     put_four(output, place, first ^ one.word);
     let two = one.next.stride();
     put_four(output, place + 4, second ^ two.word);
@@ -253,13 +256,13 @@ fn read_samples(start: Registers, body: &[u8], samples: usize, output: &mut [i16
     ensures { λ _. ⌜ now (output .exit) ≡ placed (now (output .entry)) 0 (wordsOf (enciphered (keystream (state start)) (now (body .entry)))) ⌝ }
 {
     let n = body.len();
-    let mut registers = start;
+    let mut running = Running { registers: start };
     let mut at = 0;
     while at + CHUNK <= n {
-        registers = read_chunk(registers, body, output, at);
+        running = read_chunk(running, body, output, at);
         at += CHUNK;
     }
-    read_rest(registers, body, output, at, n - at);
+    read_rest(running.registers, body, output, at, n - at);
 }
 
 // Opens a pack: writes its samples to the front of the output, and answers what the file holds and where.

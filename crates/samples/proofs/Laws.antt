@@ -1,20 +1,21 @@
 -- The laws of samples and their bytes. A word and its 16 bits go into each other by cases on the sign.
 -- Assumes nothing.
 use mathlib.Core.Path.{_≡_, refl, sym, ap, ap₂, _∙_}
-use Prim.Native.Nat.{ℕ, zero, suc, _+_, _-_, _*_, _/_, _%_, _<_, _≤_}
+use Prim.Native.Nat.{ℕ, zero, suc, _+_, _-_, _*_, _/_, _%_, _^_, _<_, _≤_}
 use mathlib.Core.Bool.{Bool, true, false, cond}
-use mathlib.Core.List.{List, [], _∷_, _++_, append-assoc}
-use native.Mathlib.Nat.{zero-add, mod-eq-of-lt}
+use mathlib.Core.List.{List, [], _∷_, _++_, map, reverse, append-assoc}
+use native.Mathlib.Nat.{zero-add, mod-lt, mod-eq-of-lt}
 use native.Mathlib.Omega.{arith}
 use borrow.Author.Tests.{lt-ltb, le-ltb, le-leb}
 use lib.Dec.{ltb}
 use lib.IntN.{ℤ, pos, negsuc, _-ℤ_}
 use lib.ListN.{length, getD, length-append}
+use lib.Pow.{shr-shr}
 use lib.Signed.{mag}
-use Rattle.octets.specs.Digits.{number, digits}
+use Rattle.octets.specs.Digits.{number, numberAfter, digits}
 use Rattle.octets.specs.Stream.{placed}
 use Rattle.octets.proofs.Numbers.{Below, number-below, digits-number, number-digits, length-digits}
-use Rattle.samples.specs.Words.{signed, unsigned, wordOf, bytesOf, wordsOf, bytesOfAll, wordsRead, wordsWritten}
+use Rattle.samples.specs.Words.{signed, unsigned, wordOf, bytesOf, turned, wordsOf, bytesOfAll, wordsRead, wordsWritten}
 
 pub minus-one-less : (k : ℕ) → negsuc 0 -ℤ pos k ≡ negsuc k
 minus-one-less zero = refl
@@ -121,6 +122,13 @@ word-at (u ∷ l ∷ bytes) (suc i) h =
     lower : suc (suc (2 * i + 1)) ≡ 2 * suc i + 1
     lower = omega arith
 
+pub bytes-below : (zs : List ℤ) → Below 256 (bytesOfAll zs)
+unfolding bytesOfAll digits
+bytes-below [] i = omega arith
+bytes-below (z ∷ zs) zero = omega arith
+bytes-below (z ∷ zs) (suc zero) = omega arith
+bytes-below (z ∷ zs) (suc (suc i)) = bytes-below zs i
+
 -- the two bytes of sample number i
 pub byte-upper : (zs : List ℤ) (i : ℕ) → i < length zs → getD (bytesOfAll zs) (2 * i) 0 ≡ unsigned (getD zs i (pos 0)) / 256 % 256
 unfolding bytesOfAll digits
@@ -174,3 +182,53 @@ bytes-append (x ∷ xs) ys = ap (λ (l : List ℕ). bytesOf x ++ l) (bytes-appen
 pub words-nothing : wordsOf [] ≡ []
 unfolding wordsOf
 words-nothing = refl
+
+-- ---- four words in the other order
+
+four-below : {a b c d : ℕ} → a < 65536 → b < 65536 → c < 65536 → d < 65536 → Below 65536 (a ∷ b ∷ c ∷ d ∷ [])
+four-below ha hb hc hd zero = ha
+four-below ha hb hc hd (suc zero) = hb
+four-below ha hb hc hd (suc (suc zero)) = hc
+four-below ha hb hc hd (suc (suc (suc zero))) = hd
+four-below ha hb hc hd (suc (suc (suc (suc i)))) = omega arith
+
+pub turned-number : (a b c d : ℕ) → a < 65536 → b < 65536 → c < 65536 → d < 65536
+    → turned (number 65536 (a ∷ b ∷ c ∷ d ∷ [])) ≡ number 65536 (d ∷ c ∷ b ∷ a ∷ [])
+unfolding turned
+turned-number a b c d ha hb hc hd =
+    ap (λ (l : List ℕ). number 65536 (reverse l)) (digits-number 65536 (omega arith) (a ∷ b ∷ c ∷ d ∷ []) (four-below ha hb hc hd))
+
+pub turned-digits : (x : ℕ) → digits 65536 4 (turned x) ≡ reverse (digits 65536 4 x)
+unfolding turned digits
+turned-digits x = digits-number 65536 (omega arith) (reverse (digits 65536 4 x)) (four-below (word 0) (word 1) (word 2) (word 3))
+  where
+    word : (n : ℕ) → x / 65536 ^ n % 65536 < 65536
+    word n = mod-lt (x / 65536 ^ n) (omega arith)
+
+-- to turn a word of 64 bits twice is to have it back
+pub turned-twice : (x : ℕ) → x < 2 ^ 64 → turned (turned x) ≡ x
+unfolding turned digits
+turned-twice x h = ap (λ (l : List ℕ). number 65536 (reverse l)) (turned-digits x) ∙ number-digits 65536 (omega arith) 4 x ∙ mod-eq-of-lt h
+
+-- two bytes next to each other are the word that begins where the second does
+pub two-bytes : (x k : ℕ) → x / 2 ^ (k + 8) % 256 * 256 + x / 2 ^ k % 256 ≡ x / 2 ^ k % 65536
+two-bytes x k = ap (λ (y : ℕ). y % 256 * 256 + x / 2 ^ k % 256) (sym (shr-shr x k 8)) ∙ split (x / 2 ^ k)
+  where
+    split : (y : ℕ) → y / 256 % 256 * 256 + y % 256 ≡ y % 65536
+    split y = omega arith
+
+-- the samples of a word's eight bytes are those of its four words, which stand from the lowest on once it is turned
+pub turned-words : (x : ℕ)
+    → signed (turned x % 65536) ∷ signed (turned x / 2 ^ 16 % 65536) ∷ signed (turned x / 2 ^ 32 % 65536) ∷ signed (turned x / 2 ^ 48 % 65536) ∷ []
+    ≡ wordsOf (digits 256 8 x)
+unfolding wordsOf digits numberAfter
+turned-words x =
+    ap (λ (n : ℕ). signed n ∷ signed (turned x / 2 ^ 16 % 65536) ∷ signed (turned x / 2 ^ 32 % 65536) ∷ signed (turned x / 2 ^ 48 % 65536) ∷ []) (whole (turned x))
+    ∙ ap (λ (l : List ℕ). map signed (reverse l)) (turned-digits x)
+    ∙ (λ i. signed (place 48 i) ∷ signed (place 32 i) ∷ signed (place 16 i) ∷ signed (place 0 i) ∷ [])
+  where
+    whole : (n : ℕ) → n % 65536 ≡ n / 1 % 65536
+    whole n = omega arith
+
+    place : (k : ℕ) → x / 2 ^ k % 65536 ≡ (0 * 256 + x / 2 ^ (k + 8) % 256) * 256 + x / 2 ^ k % 256
+    place k = sym (ap (λ (y : ℕ). y * 256 + x / 2 ^ k % 256) (zero-add (x / 2 ^ (k + 8) % 256)) ∙ two-bytes x k)

@@ -2,7 +2,7 @@
 -- Assumes nothing.
 use Prim.Native.Nat.{ℕ, _-_, _*_, _/_}
 use mathlib.Core.Bool.{cond}
-use mathlib.Core.List.{List, [], _∷_, _++_}
+use mathlib.Core.List.{List, [], _∷_, _++_, reverse}
 use lib.Dec.{leb, ltb}
 use lib.IntN.{ℤ, pos, negsuc}
 use lib.ListN.{length}
@@ -25,6 +25,10 @@ wordOf upper lower = signed (number 256 (upper ∷ lower ∷ []))
 -- the two bytes that a sample is
 abbrev pub bytesOf : ℤ → List ℕ
 bytesOf z = digits 256 2 (unsigned z)
+
+-- the four words of 16 bits of a number in the other order
+unfoldable pub turned : ℕ → ℕ
+turned x = number 65536 (reverse (digits 65536 4 x))
 
 -- the samples that a run of bytes is, two bytes each
 unfoldable pub wordsOf : List ℕ → List ℤ

@@ -10,11 +10,12 @@ ghost use Rattle.pack.specs.Faults.{first, sealFaults};
 ghost use Rattle.pack.specs.Layout.{parts, loopsGood, fours};
 ghost use Rattle.pack.specs.Suite as Suite;
 ghost use Rattle.samples.specs.Words.{bytesOfAll};
-ghost use Rattle.trivium.specs.Calls.{skipping};
 ghost use Rattle.trivium.specs.Keystream.{keystream};
 ghost use Rattle.trivium.specs.Record.{state};
+ghost use Rattle.trivium.specs.Registers.{steps};
 use pack::Sealed;
 use trivium::Registers;
+use trivium::Running;
 
 const ACCEPTED: u8 = 0;
 
@@ -124,7 +125,8 @@ fn write_key(output: &mut [u8], at: usize, key: u8, value: &[u8])
     octets::copy(output, at + 2, value);
 }
 
-// The word that the bytes of four samples from `from` make.
+// The word that the bytes of four samples from `from` make. They are put together from the lowest on, for the compiler to load all four
+// at once, and then turned.
 fn four_bits(samples: &[i16], from: usize) -> u64
     requires { ⌜ from + 4 ≤ length (now samples) ⌝ }
     ensures { λ r. ⌜ r ≡ number 256 (bytesOfAll (take 4 (drop from (now (samples .entry))))) ⌝ }
@@ -133,7 +135,7 @@ fn four_bits(samples: &[i16], from: usize) -> u64
     let second = samples::bits(samples[from + 1]) as u64;
     let third = samples::bits(samples[from + 2]) as u64;
     let fourth = samples::bits(samples[from + 3]) as u64;
-    first * 281474976710656 + second * 4294967296 + third * 65536 + fourth
+    samples::turned(fourth * 281474976710656 + third * 4294967296 + second * 65536 + first)
 }
 
 // The eight bytes of a word, at their place. `octets::write_number` would look for room again at each turn of the loop.
@@ -151,24 +153,25 @@ fn put_word(output: &mut [u8], at: usize, word: u64)
     output[at + 7] = (word % 256) as u8;
 }
 
-// Eight samples from `from`, as bytes and enciphered, to their place, by two strides of the cipher: no byte is stored
-// between. The samples are read before each stride, while the machine's registers are free.
+// Eight samples from `from`, as bytes and enciphered, to their place, by two strides of the cipher: no byte is stored between. In
+// this order the compiler keeps the fewest values on the stack.
 fn write_chunk(
-    registers: Registers,
+    running: Running,
     samples: &[i16],
     output: &mut [u8],
     from: usize,
     at: usize,
-) -> Registers
+) -> Running
     requires { ⌜ (from + 8 ≤ length (now samples)) × (at + 16 ≤ length (now output)) ⌝ }
-    ensures { λ r. ⌜ (r ≡ skipping registers 16)
-        × (now (output .exit) ≡ placed (now (output .entry)) at (enciphered (keystream (state registers)) (bytesOfAll (take 8 (drop from (now (samples .entry))))))) ⌝ }
+    ensures { λ r. ⌜ (state (r .registers) ≡ steps 128 (state (running .registers)))
+        × (now (output .exit) ≡ placed (now (output .entry)) at (enciphered (keystream (state (running .registers))) (bytesOfAll (take 8 (drop from (now (samples .entry))))))) ⌝ }
 {
     let first = four_bits(samples, from);
-    let one = registers.stride();
-    put_word(output, at, first ^ one.word);
-    let second = four_bits(samples, from + 4);
+    let one = running.stride();
+    let covered = first ^ one.word;
     let two = one.next.stride();
+    put_word(output, at, covered);
+    let second = four_bits(samples, from + 4);
     put_word(output, at + 8, second ^ two.word);
     two.next
 }
@@ -192,19 +195,26 @@ fn write_rest(
     registers.encipher(&chunk[..bytes], &mut output[at..]);
 }
 
-// All samples, as bytes and enciphered, to their place.
+// All samples, as bytes and enciphered, to their place. What is done is counted in bytes: one index serves both runs.
 fn write_samples(registers: Registers, samples: &[i16], output: &mut [u8], at: usize)
     requires { ⌜ at + 2 * length (now samples) ≤ length (now output) ⌝ }
     ensures { λ _. ⌜ now (output .exit) ≡ placed (now (output .entry)) at (enciphered (keystream (state registers)) (bytesOfAll (now (samples .entry)))) ⌝ }
 {
-    let n = samples.len();
-    let mut next = registers;
+    let n = 2 * samples.len();
+    let mut running = Running { registers };
     let mut done = 0;
-    while done + 8 <= n {
-        next = write_chunk(next, samples, output, done, at + 2 * done);
-        done += 8;
+    while done + 16 <= n {
+        running = write_chunk(running, samples, output, done / 2, at + done);
+        done += 16;
     }
-    write_rest(next, samples, output, done, n - done, at + 2 * done);
+    write_rest(
+        running.registers,
+        samples,
+        output,
+        done / 2,
+        (n - done) / 2,
+        at + done,
+    );
 }
 
 // A loop's start and end, at its place.

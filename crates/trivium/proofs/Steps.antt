@@ -1,7 +1,7 @@
 -- Steps as iteration: the laws of n steps and of the bits that they put out, and the states that a record can hold.
 -- Assumes nothing.
 use mathlib.Core.Path.{_≡_, refl, sym, ap, ap₂, subst, _∙_}
-use Prim.Native.Nat.{ℕ, zero, suc, _+_, _-_, _*_, _/_, _%_, _^_, _<_}
+use Prim.Native.Nat.{ℕ, zero, suc, _+_, _-_, _*_, _/_, _%_, _^_, _<_, _≤_}
 use mathlib.Core.List.{List, [], _∷_, _++_}
 use native.Mathlib.Nat.{zero-add, suc-add, mod-lt, mod-eq-of-lt}
 use native.Mathlib.Numerals.{add-one}
@@ -12,13 +12,14 @@ use lib.Pow.{pow-pos, shr-lt, shr-shr, mod-mod-pow, low}
 use Rattle.octets.specs.Digits.{number, numberAfter}
 use Rattle.octets.specs.Stream.{from}
 use Rattle.octets.proofs.Numbers.{Below, after-append}
-use Rattle.trivium.specs.Calls.{striding, skipping}
-use Rattle.trivium.specs.Registers.{State, loaded, started, newA, newB, newC, moved, next, steps, outputBit}
+use Rattle.trivium.specs.Calls.{running, skipping}
+use Rattle.trivium.specs.Registers.{State, loaded, warmUp, started, newA, newB, newC, moved, next, steps, outputBit}
 use Rattle.trivium.specs.Keystream.{bits}
-use Rattle.trivium.specs.Record.{state, packed}
+use Rattle.trivium.specs.Record.{state, packed, joined}
+use Rattle.trivium.specs.declared.Ran.{Ran}
 use Rattle.trivium.specs.declared.Registers.{Registers}
-use Rattle.trivium.specs.declared.Strode.{Strode}
-use Rattle.trivium.proofs.Words.{joined-apart, grown, run, rule, sum, newWord, new-bit, grown-more, tap-grown, output-by, sum-shr}
+use Rattle.trivium.specs.declared.Running.{Running}
+use Rattle.trivium.proofs.Words.{joined-apart, joined-strode, grown, run, rule, sum, newWord, new-bit, grown-more, tap-grown, output-by, sum-shr}
 
 pub steps-add : (n m : ℕ) (s : State) → steps (n + m) s ≡ steps m (steps n s)
 unfolding steps
@@ -48,6 +49,12 @@ pub held-steps : (n : ℕ) (s : State) → Held s → Held (steps n s)
 unfolding steps
 held-steps zero s h = h
 held-steps (suc n) s h = held-steps n (next s) (held-next s)
+
+-- a first step cuts each register to its width
+held-moved : (n : ℕ) (s : State) → 0 < n → Held (steps n s)
+unfolding steps
+held-moved zero s some = absurd (omega arith)
+held-moved (suc n) s some = held-steps n (next s) (held-next s)
 
 pub held-state : (r : Registers) → Held (state r)
 unfolding state
@@ -238,6 +245,34 @@ strides s h =
       c = ap (λ (t : State). t .c % 2 ^ 64) (partly s h 64 0 refl) ∙ newest 47 (s .c) (wordC s) (word-c s);
     }
 
+-- ---- strides in a run, for callers, who need not unfold `running`
+
+pub ran-word : (w : Running) (r : Ran) → r ≡ running w → r .word ≡ number 2 (bits 64 (state (w .registers)))
+unfolding running
+ran-word w r e = ap (λ (x : Ran). x .word) e
+
+-- one register; `word` is what it has newest
+ran-register : (p upper lower word v : ℕ) → word ≡ v → p ≤ 64 → v < 2 ^ 64
+    → joined (p + 64) lower word ≡ grown (p + 64) (joined (p + 64) upper lower) 64 (v / 2 ^ 0)
+ran-register p upper lower word v same small hv =
+    ap (joined (p + 64) lower) (same ∙ sym (whole-word v)) ∙ joined-strode p upper lower (v / 2 ^ 0) small (front v 64 0 refl hv)
+
+-- what an upper word keeps of bits that the cipher is done with counts for nothing
+pub ran-state : (w : Running) (r : Ran) → r ≡ running w → state (r .next .registers) ≡ steps 64 (state (w .registers))
+unfolding running state
+ran-state w r e =
+    let before : Registers = w .registers in
+    let s : State = state before in
+    let made : Strides s = strides s (held-state before) in
+    ap (λ (x : Ran). state (x .next .registers)) e
+    ∙ (λ i.
+    record {
+      a = ran-register 29 (before .a1) (before .a0) (steps 64 s .a % 2 ^ 64) (wordA s) (made .a) (omega arith) (word-a s) i;
+      b = ran-register 20 (before .b1) (before .b0) (steps 64 s .b % 2 ^ 64) (wordB s) (made .b) (omega arith) (word-b s) i;
+      c = ran-register 47 (before .c1) (before .c0) (steps 64 s .c % 2 ^ 64) (wordC s) (made .c) (omega arith) (word-c s) i;
+    })
+    ∙ sym (partly s (held-state before) 64 0 refl)
+
 -- ---- whole bytes passed over
 
 pub state-skip : (r : Registers) (n : ℕ) → state (skipping r n) ≡ steps (8 * n) (state r)
@@ -259,10 +294,4 @@ skip-add r n m =
 
 -- whatever was loaded, what is started is held
 pub state-started : (key iv : List ℕ) → state (packed (started key iv)) ≡ started key iv
-unfolding steps
-state-started key iv = state-packed (started key iv) (held-steps 1151 (next (loaded key iv)) (held-next (loaded key iv)))
-
--- a stride moves on by eight bytes
-pub stride-skips : (r : Registers) (strode : Strode) → strode ≡ striding r → strode .next ≡ skipping r 8
-unfolding striding skipping
-stride-skips r strode e = ap (λ (x : Strode). x .next) e
+state-started key iv = state-packed (started key iv) (held-moved warmUp (loaded key iv) (omega arith))

@@ -12,18 +12,20 @@ use Rattle.octets.specs.Outcome.{Outcome, outcome, only-one}
 use Rattle.octets.specs.Refusals.{accepted}
 use Rattle.octets.specs.Stream.{Keystream, from, enciphered, placed}
 use Rattle.octets.proofs.Streams.{length-enciphered, enciphered-append, enciphered-twice, take-placed, drop-placed, placed-cut}
-use Rattle.trivium.specs.Calls.{making, stepping, striding, skipping, enciphering}
+use Rattle.trivium.specs.Calls.{making, stepping, striding, running, skipping, enciphering}
 use Rattle.trivium.specs.Engines.{plainly, plainBits}
 use Rattle.trivium.specs.Keystream.{bits, keystream}
 use Rattle.trivium.specs.Record.{state, packed}
 use Rattle.trivium.specs.Registers.{State, next, steps, started, outputBit}
 use Rattle.trivium.specs.declared.Enciphered.{Enciphered}
 use Rattle.trivium.specs.declared.Made.{Made}
+use Rattle.trivium.specs.declared.Ran.{Ran}
 use Rattle.trivium.specs.declared.Registers.{Registers}
+use Rattle.trivium.specs.declared.Running.{Running}
 use Rattle.trivium.specs.declared.Stepped.{Stepped}
 use Rattle.trivium.specs.declared.Strode.{Strode}
 use Rattle.trivium.proofs.Bytes.{keystream-from}
-use Rattle.trivium.proofs.Steps.{Held, held-next, held-state, held-steps, state-packed, state-skip, skip-add}
+use Rattle.trivium.proofs.Steps.{Held, held-next, held-state, held-steps, state-packed, state-skip, skip-add, ran-word, ran-state}
 
 -- ---- nothing else meets a promise
 
@@ -35,6 +37,9 @@ stepping-only r one other = only-one
 
 pub striding-only : (r : Registers) (one other : Strode) → one ≡ striding r → other ≡ striding r → one ≡ other
 striding-only r one other = only-one
+
+pub running-only : (w : Running) (one other : Ran) → one ≡ running w → other ≡ running w → one ≡ other
+running-only w one other = only-one
 
 pub skipping-only : (r : Registers) (n : ℕ) (one other : Registers) → one ≡ skipping r n → other ≡ skipping r n → one ≡ other
 skipping-only r n one other = only-one
@@ -67,6 +72,16 @@ plain-bits (suc n) r = ap (λ (l : List ℕ). outputBit (state r) ∷ l) (plain-
 pub engines-agree : (r : Registers) → striding r ≡ record { word = number 2 (plainBits 64 r); next = plainly 64 r }
 unfolding striding
 engines-agree r = λ i. record { word = number 2 (sym (plain-bits 64 r) i); next = sym (plainly-packed 63 r) i }
+
+-- a stride in a run and a plain one give the same word, and what they leave stands for the same state
+pub running-agrees : (w : Running)
+    → (running w .word ≡ striding (w .registers) .word) × (state (running w .next .registers) ≡ state (striding (w .registers) .next))
+unfolding striding
+running-agrees w =
+    let s : State = state (w .registers) in (
+      ran-word w (running w) refl,
+      ran-state w (running w) refl ∙ sym (state-packed (steps 64 s) (held-steps 64 s (held-state (w .registers)))),
+    )
 
 -- ---- spare bits
 

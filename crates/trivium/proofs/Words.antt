@@ -247,7 +247,7 @@ module _ (p upper lower n k r : ℕ) (e : n + k ≡ 64) (small : p ≤ 64) (hl :
       ∙ sym (moved-up n k lower r e hr)
 
 -- after a whole word the lower word has gone up
-module _ (p upper lower v : ℕ) (small : p ≤ 64) (hl : lower < 2 ^ 64) (hv : v < 2 ^ 64) where
+module _ (p upper lower v : ℕ) (small : p ≤ 64) (hv : v < 2 ^ 64) where
   pub upper-strode : grown (p + 64) (joined (p + 64) upper lower) 64 v / 2 ^ 64 ≡ lower % 2 ^ p
   upper-strode =
       let wide : 64 - p + p ≡ 64 = omega arith in
@@ -256,7 +256,9 @@ module _ (p upper lower v : ℕ) (small : p ≤ 64) (hl : lower < 2 ^ 64) (hv : 
       ∙ ap (λ (x : ℕ). x % 2 ^ p) (high (upper * 2 ^ 64 + lower) 64 hv)
       ∙ sym (mod-mod-pow (upper * 2 ^ 64 + lower) (64 - p) p)
       ∙ ap (λ (q : ℕ). (upper * 2 ^ 64 + lower) % 2 ^ q % 2 ^ p) wide
-      ∙ ap (λ (x : ℕ). x % 2 ^ p) (low upper 64 hl)
+      ∙ ap (λ (x : ℕ). x % 2 ^ p) (mul-add-mod-self-right upper (2 ^ 64) lower)
+      ∙ ap (λ (q : ℕ). lower % 2 ^ q % 2 ^ p) (sym wide)
+      ∙ mod-mod-pow lower (64 - p) p
 
   -- and the spare bits above it count for nothing
   pub joined-strode : joined (p + 64) lower v ≡ grown (p + 64) (joined (p + 64) upper lower) 64 v

@@ -5,7 +5,7 @@ ghost use lib.ListN.{length, take, drop};
 ghost use Rattle.octets.specs.Digits.{number, numberAt};
 ghost use Rattle.octets.specs.Outcome.{outcome};
 ghost use Rattle.octets.specs.Stream.{enciphered, placed, numberPlaced};
-ghost use Rattle.trivium.specs.Calls.{refusedMaking, making, stepping, striding, skipping, enciphering};
+ghost use Rattle.trivium.specs.Calls.{refusedMaking, making, stepping, striding, running, skipping, enciphering};
 ghost use Rattle.trivium.specs.Keystream.{bits, keystream};
 ghost use Rattle.trivium.specs.Record.{state, packed};
 ghost use Rattle.trivium.specs.Registers.{steps, loaded, warmUp};
@@ -34,6 +34,17 @@ pub struct Stepped {
 pub struct Strode {
     pub word: u64,
     pub next: Registers,
+}
+
+// Registers in a run of strides. A stride here moves whole words and clears nothing, so a register's word 1 goes on holding bits
+// that the cipher is done with. This is no cipher record: the calls on `Registers` ignore such bits and, unless they refuse, hand none back.
+pub struct Running {
+    pub registers: Registers,
+}
+
+pub struct Ran {
+    pub word: u64,
+    pub next: Running,
 }
 
 pub struct Enciphered {
@@ -223,27 +234,6 @@ impl Registers {
         }
     }
 
-    // The same, but the spare bits are left as they come. A loop of these has three words fewer to clear at each turn.
-    fn stride_untrimmed(self) -> Strode
-        ensures { λ r. ⌜ (r .word ≡ number 2 (bits 64 (state self))) × (state (r .next) ≡ steps 64 (state self)) ⌝ }
-    {
-        let a0 = self.a0;
-        let b0 = self.b0;
-        let c0 = self.c0;
-        let ahead = self.ahead();
-        Strode {
-            word: ahead.z,
-            next: Registers {
-                a1: a0,
-                a0: ahead.a,
-                b1: b0,
-                b0: ahead.b,
-                c1: c0,
-                c0: ahead.c,
-            },
-        }
-    }
-
     // The same registers, with every spare bit zero.
     fn trimmed(self) -> Registers
         ensures { λ r. ⌜ r ≡ packed (state self) ⌝ }
@@ -334,11 +324,12 @@ impl Registers {
         ensures { λ r. ⌜ (state r ≡ steps 128 (state self))
             × (now (output .exit) ≡ placed (now (output .entry)) at (enciphered (keystream (state self)) (take 16 (drop at (now (input .entry)))))) ⌝ }
     {
-        let one = self.stride_untrimmed();
+        let running = Running { registers: self };
+        let one = running.stride();
         encipher_word(input, output, at, one.word);
-        let two = one.next.stride_untrimmed();
+        let two = one.next.stride();
         encipher_word(input, output, at + 8, two.word);
-        two.next
+        two.next.registers
     }
 
     // What is left behind the sixteens.
@@ -374,6 +365,32 @@ impl Registers {
         Enciphered {
             refusal: ACCEPTED,
             next: registers.encipher_rest(input, output, at, n - at),
+        }
+    }
+}
+
+impl Running {
+    // 64 bits and 64 steps, as `Registers::stride`; three words fewer to clear at each turn of a loop.
+    pub fn stride(self) -> Ran
+        ensures { λ r. ⌜ r ≡ running self ⌝ }
+    {
+        let registers = self.registers;
+        let a0 = registers.a0;
+        let b0 = registers.b0;
+        let c0 = registers.c0;
+        let ahead = registers.ahead();
+        Ran {
+            word: ahead.z,
+            next: Running {
+                registers: Registers {
+                    a1: a0,
+                    a0: ahead.a,
+                    b1: b0,
+                    b0: ahead.b,
+                    c1: c0,
+                    c0: ahead.c,
+                },
+            },
         }
     }
 }

@@ -1,4 +1,4 @@
--- `opener::put_four` meets its contract: two bytes of the word make each sample, and four stores in a row are a run in its place.
+-- `opener::put_four` meets its contract: the turned word has the samples from the lowest on, and four stores in a row are a run in its place.
 -- Assumes nothing.
 use mathlib.Core.Path.{_≡_, ap, _∙_}
 use Prim.Native.Nat.{ℕ, suc, _+_, _/_, _%_, _^_, _≤_}
@@ -11,9 +11,9 @@ use lib.Seq.{sets-eq}
 use mir.Syntax.{w16}
 use mir.Val.{toZ, ofZ}
 use mir.ValLaws.{toZ-ofZ}
-use Rattle.octets.specs.Digits.{digits}
 use Rattle.octets.specs.Stream.{placed}
-use Rattle.samples.specs.Words.{wordOf, wordsOf}
+use Rattle.samples.specs.Words.{signed}
+use Rattle.samples.proofs.Laws.{turned-words}
 use Rattle.opener.proofs.put_four.Statement.{statement}
 use Rattle.opener.proofs.put_four.Tie as tie
 
@@ -32,52 +32,32 @@ four-set d at x y z w h = rw (one, two, three) (sets-eq (x ∷ y ∷ z ∷ w ∷
     three : at + 3 ≡ suc (suc (suc at))
     three = omega arith
 
--- the four samples of a word are those of its eight bytes
-four-words : (v : ℕ)
-    → wordOf (v / 2 ^ 56 % 256) (v / 2 ^ 48 % 256) ∷ wordOf (v / 2 ^ 40 % 256) (v / 2 ^ 32 % 256) ∷ wordOf (v / 2 ^ 24 % 256) (v / 2 ^ 16 % 256) ∷ wordOf (v / 2 ^ 8 % 256) (v % 256) ∷ []
-    ≡ wordsOf (digits 256 8 v)
-unfolding wordsOf digits
-four-words v =
-    ap (λ (last : ℕ). wordOf (v / 2 ^ 56 % 256) (v / 2 ^ 48 % 256) ∷ wordOf (v / 2 ^ 40 % 256) (v / 2 ^ 32 % 256) ∷ wordOf (v / 2 ^ 24 % 256) (v / 2 ^ 16 % 256) ∷ wordOf (v / 2 ^ 8 % 256) last ∷ []) whole
-  where
-    whole : v % 256 ≡ v / 1 % 256
-    whole = omega arith
+turned-requires : tie.Need-turned-requires
+turned-requires c κs = search needs
 
-cast-word : tie.Need-cast-word
-cast-word c = search needs
+cast-sample : tie.Need-cast-sample
+cast-sample c = search needs
 
-cast-word-2 : tie.Need-cast-word-2
-cast-word-2 c = search needs
+sample-requires : tie.Need-sample-requires
+sample-requires c κs = search needs
 
-word-requires : tie.Need-word-requires
-word-requires c κs = search needs
+cast-sample-2 : tie.Need-cast-sample-2
+cast-sample-2 c = search needs
 
-cast-word-3 : tie.Need-cast-word-3
-cast-word-3 c = search needs
+sample-requires-2 : tie.Need-sample-requires-2
+sample-requires-2 c κs = search needs
 
-cast-word-4 : tie.Need-cast-word-4
-cast-word-4 c = search needs
+cast-sample-3 : tie.Need-cast-sample-3
+cast-sample-3 c = search needs
 
-word-requires-2 : tie.Need-word-requires-2
-word-requires-2 c κs = search needs
+sample-requires-3 : tie.Need-sample-requires-3
+sample-requires-3 c κs = search needs
 
-cast-word-5 : tie.Need-cast-word-5
-cast-word-5 c = search needs
+cast-sample-4 : tie.Need-cast-sample-4
+cast-sample-4 c = search needs
 
-cast-word-6 : tie.Need-cast-word-6
-cast-word-6 c = search needs
-
-word-requires-3 : tie.Need-word-requires-3
-word-requires-3 c κs = search needs
-
-cast-word-7 : tie.Need-cast-word-7
-cast-word-7 c = search needs
-
-cast-word-8 : tie.Need-cast-word-8
-cast-word-8 c = search needs
-
-word-requires-4 : tie.Need-word-requires-4
-word-requires-4 c κs = search needs
+sample-requires-4 : tie.Need-sample-requires-4
+sample-requires-4 c κs = search needs
 
 mul-first : tie.Need-mul-first
 mul-first c = search needs
@@ -117,36 +97,35 @@ same-length c = search needs
 
 returns : tie.Need-returns
 returns c =
-    let p = c .before .before .before .before .args in
-    let v : ℕ = p .word in
-    let first : toZ w16 (ofZ w16 (c .before .before .before .word .result)) ≡ wordOf (v / 2 ^ 56 % 256) (v / 2 ^ 48 % 256) =
-    toZ-ofZ w16 (c .before .before .before .word .result) (sfits-of (c .before .before .before .word .ok)) ∙ c .before .before .before .word .ensures in
-    let second : toZ w16 (ofZ w16 (c .before .before .word2 .result)) ≡ wordOf (v / 2 ^ 40 % 256) (v / 2 ^ 32 % 256) =
-    toZ-ofZ w16 (c .before .before .word2 .result) (sfits-of (c .before .before .word2 .ok)) ∙ c .before .before .word2 .ensures in
-    let third : toZ w16 (ofZ w16 (c .before .word3 .result)) ≡ wordOf (v / 2 ^ 24 % 256) (v / 2 ^ 16 % 256) =
-    toZ-ofZ w16 (c .before .word3 .result) (sfits-of (c .before .word3 .ok)) ∙ c .before .word3 .ensures in
-    let fourth : toZ w16 (ofZ w16 (c .word4 .result)) ≡ wordOf (v / 2 ^ 8 % 256) (v % 256) =
-    toZ-ofZ w16 (c .word4 .result) (sfits-of (c .word4 .ok)) ∙ c .word4 .ensures in
+    let four = c in
+    let three = four .before in
+    let two = three .before in
+    let one = two .before in
+    let turn = one .before in
+    let p = turn .before .args in
+    let y : ℕ = turn .turned .result in
+    let first : toZ w16 (ofZ w16 (one .sample .result)) ≡ signed (y % 65536) = toZ-ofZ w16 (one .sample .result) (sfits-of (one .sample .ok)) ∙ one .sample .ensures in
+    let second : toZ w16 (ofZ w16 (two .sample2 .result)) ≡ signed (y / 2 ^ 16 % 65536) = toZ-ofZ w16 (two .sample2 .result) (sfits-of (two .sample2 .ok)) ∙ two .sample2 .ensures in
+    let third : toZ w16 (ofZ w16 (three .sample3 .result)) ≡ signed (y / 2 ^ 32 % 65536) = toZ-ofZ w16 (three .sample3 .result) (sfits-of (three .sample3 .ok)) ∙ three .sample3 .ensures in
+    let fourth : toZ w16 (ofZ w16 (four .sample4 .result)) ≡ signed (y / 2 ^ 48 % 65536) = toZ-ofZ w16 (four .sample4 .result) (sfits-of (four .sample4 .ok)) ∙ four .sample4 .ensures in
     (λ i. set (set (set (set (p .output .now) (p .place) (first i)) (p .place + 1) (second i)) (p .place + 2) (third i)) (p .place + 3) (fourth i))
-    ∙ four-set (p .output .now) (p .place) (wordOf (v / 2 ^ 56 % 256) (v / 2 ^ 48 % 256)) (wordOf (v / 2 ^ 40 % 256) (v / 2 ^ 32 % 256)) (wordOf (v / 2 ^ 24 % 256) (v / 2 ^ 16 % 256)) (wordOf (v / 2 ^ 8 % 256) (v % 256)) (c .before .before .before .before .pre)
-    ∙ ap (placed (p .output .now) (p .place)) (four-words v)
+    ∙ four-set (p .output .now) (p .place) (signed (y % 65536)) (signed (y / 2 ^ 16 % 65536)) (signed (y / 2 ^ 32 % 65536)) (signed (y / 2 ^ 48 % 65536)) (turn .before .pre)
+    ∙ ap (λ (t : ℕ). placed (p .output .now) (p .place) (signed (t % 65536) ∷ signed (t / 2 ^ 16 % 65536) ∷ signed (t / 2 ^ 32 % 65536) ∷ signed (t / 2 ^ 48 % 65536) ∷ [])) (turn .turned .ensures)
+    ∙ ap (placed (p .output .now) (p .place)) (turned-words (p .word))
 
 pub put-four-spec : {M : Type 1} → statement M
 put-four-spec =
     tie.close
     (tie.spec
-    cast-word
-    cast-word-2
-    word-requires
-    cast-word-3
-    cast-word-4
-    word-requires-2
-    cast-word-5
-    cast-word-6
-    word-requires-3
-    cast-word-7
-    cast-word-8
-    word-requires-4
+    turned-requires
+    cast-sample
+    sample-requires
+    cast-sample-2
+    sample-requires-2
+    cast-sample-3
+    sample-requires-3
+    cast-sample-4
+    sample-requires-4
     mul-first
     slice-set-from-first
     add-second

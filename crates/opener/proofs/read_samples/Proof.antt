@@ -15,7 +15,7 @@ use Rattle.trivium.specs.Keystream.{keystream}
 use Rattle.trivium.specs.Record.{state}
 use Rattle.trivium.specs.Registers.{steps}
 use Rattle.trivium.proofs.Bytes.{keystream-from}
-use Rattle.trivium.proofs.Steps.{state-skip, steps-none, steps-bytes}
+use Rattle.trivium.proofs.Steps.{steps-none, steps-bytes}
 use Rattle.opener.proofs.read_samples.Statement.{statement}
 use Rattle.opener.proofs.read_samples.Tie as tie
 
@@ -24,12 +24,12 @@ abbrev front : Keystream → List ℕ → List ℤ → ℕ → List ℤ
 front k body output at = placed output 0 (wordsOf (enciphered k (take at body)))
 
 abbrev Inv-loop : tie.InvT-loop
-Inv-loop body samples output₀ n registers₀ at₀ output registers at =
-    (at ≤ length body) × (at % 2 ≡ 0) × (length output ≡ length output₀) × (state registers ≡ steps (8 * at) (state registers₀))
-    × (output ≡ front (keystream (state registers₀)) body output₀ at)
+Inv-loop body samples output₀ n running₀ at₀ output running at =
+    (at ≤ length body) × (at % 2 ≡ 0) × (length output ≡ length output₀) × (state (running .registers) ≡ steps (8 * at) (state (running₀ .registers)))
+    × (output ≡ front (keystream (state (running₀ .registers))) body output₀ at)
 
 abbrev μ-loop : tie.MeasureT-loop
-μ-loop body samples output₀ n registers₀ at₀ output registers at = length body - at
+μ-loop body samples output₀ n running₀ at₀ output running at = length body - at
 
 -- so many bytes further, an even number before them
 further : (k : Keystream) (body : List ℕ) (output : List ℤ) (at size : ℕ) → at % 2 ≡ 0 → at + size ≤ length body → (at + size) / 2 ≤ length output
@@ -84,7 +84,7 @@ loop-again c =
       omega arith,
       omega arith,
       m .read-chunk .kept .1 .1 .0 ∙ l .inv .2,
-      ap state (m .read-chunk .ensures .0) ∙ state-skip (l .registers) 16 ∙ ap (steps 128) (l .inv .3) ∙ sym (steps-bytes (l .at) 16 (state (p .start))),
+      m .read-chunk .ensures .0 ∙ ap (steps 128) (l .inv .3) ∙ sym (steps-bytes (l .at) 16 (state (p .start))),
       m .read-chunk .ensures .1
           ∙ ap₂ (λ (d : List ℤ) (j : Keystream). placed d (l .at / 2) (wordsOf (enciphered j (take 16 (drop (l .at) (p .body .now)))))) (l .inv .4)
           (ap keystream (l .inv .3) ∙ sym (keystream-from (l .at) (state (p .start))))

@@ -1,18 +1,14 @@
--- `samples::word` meets its contract: below 32,768 the number is the sample, and from there on -1 less what is missing to 65,535.
+-- `samples::word` meets its contract: two bytes make the number whose sample it is.
 -- Assumes nothing.
-use mathlib.Core.Path.{_≡_, sym, ap, subst, _∙_}
-use Prim.Native.Nat.{ℕ, _+_, _-_, _*_, _<_, _≤_}
+use mathlib.Core.Path.{_≡_, ap, _∙_}
+use Prim.Native.Nat.{ℕ, _+_, _*_}
 use mathlib.Core.List.{[], _∷_}
 use native.Mathlib.Omega.{arith}
 use borrow.Author.Needs.{needs, sfits-of}
-use borrow.Author.Tests.{lt-ltb, le-ltb}
-use lib.IntN.{ℤ, negsuc, _-ℤ_}
 use mir.Syntax.{w16}
-use mir.Val.{toZ, SFits}
-use mir.ValLaws.{toZ-pos, toZ-ofZ}
+use mir.ValLaws.{toZ-ofZ}
 use Rattle.octets.specs.Digits.{number, numberAfter}
 use Rattle.samples.specs.Words.{signed}
-use Rattle.samples.proofs.Laws.{minus-one-less}
 use Rattle.samples.proofs.word.Statement.{statement}
 use Rattle.samples.proofs.word.Tie as tie
 
@@ -20,53 +16,20 @@ two-bytes : (upper lower : ℕ) → upper * 256 + lower ≡ number 256 (upper �
 unfolding numberAfter
 two-bytes upper lower = omega arith
 
-positive : (n : ℕ) → n < 32768 → toZ w16 n ≡ signed n
-unfolding signed
-positive n h = toZ-pos w16 n h ∙ rw (lt-ltb n 32768 h)
+mul-sample : tie.Need-mul-sample
+mul-sample c = search needs
 
--- the code's difference, for what is missing
-negative : (k : ℕ) → k < 32768 → negsuc 0 -ℤ toZ w16 k ≡ negsuc k
-negative k h = ap (λ (z : ℤ). negsuc 0 -ℤ z) (toZ-pos w16 k h) ∙ minus-one-less k
+add-sample : tie.Need-add-sample
+add-sample c = search needs
 
-negative-fits : (k : ℕ) → k < 32768 → SFits w16 (negsuc 0 -ℤ toZ w16 k)
-negative-fits k h = subst (SFits w16) (sym (negative k h)) (sfits-of h)
-
-below-zero : (n : ℕ) → 32768 ≤ n → n < 65536 → negsuc (65535 - n) ≡ signed n
-unfolding signed
-below-zero n lo hi = rw (le-ltb n 32768 lo)
-
-mul-n : tie.Need-mul-n
-mul-n c = search needs
-
-add-n : tie.Need-add-n
-add-n c = search needs
-
-cast-result : tie.Need-cast-result
-cast-result c = search needs
+sample-requires : tie.Need-sample-requires
+sample-requires c κs = search needs
 
 returns : tie.Need-returns
 returns c =
-    let p = c .before .args in
-    positive (p .upper * 256 + p .lower) (omega arith) ∙ ap signed (two-bytes (p .upper) (p .lower))
-
-sub-result : tie.Need-sub-result
-sub-result c = search needs
-
-cast-result-2 : tie.Need-cast-result-2
-cast-result-2 c = search needs
-
-sub-result-2 : tie.Need-sub-result-2
-sub-result-2 c = negative-fits (65535 - (c .before .args .upper * 256 + c .before .args .lower)) (omega arith)
-
-returns-2 : tie.Need-returns-2
-returns-2 c =
-    let p = c .before .args in
-    let n : ℕ = p .upper * 256 + p .lower in
-    let small : 65535 - n < 32768 = omega arith in
-    toZ-ofZ w16 (negsuc 0 -ℤ toZ w16 (65535 - n)) (negative-fits (65535 - n) small)
-    ∙ negative (65535 - n) small
-    ∙ below-zero n (omega arith) (omega arith)
-    ∙ ap signed (two-bytes (p .upper) (p .lower))
+    toZ-ofZ w16 (c .sample .result) (sfits-of (c .sample .ok))
+    ∙ c .sample .ensures
+    ∙ ap signed (two-bytes (c .before .args .upper) (c .before .args .lower))
 
 pub word-spec : {M : Type 1} → statement M
-word-spec = tie.close (tie.spec mul-n add-n cast-result returns sub-result cast-result-2 sub-result-2 returns-2)
+word-spec = tie.close (tie.spec mul-sample add-sample sample-requires returns)

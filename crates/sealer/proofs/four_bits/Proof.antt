@@ -1,4 +1,4 @@
--- `sealer::four_bits` meets its contract: each sample's 16 bits, scaled by their place, make the number of all eight bytes.
+-- `sealer::four_bits` meets its contract: four samples' 16 bits, put together from the lowest on and turned, make the number of all eight bytes.
 -- Assumes nothing.
 use mathlib.Core.Path.{_≡_, sym, ap, _∙_}
 use Prim.Native.Nat.{ℕ, suc, _+_, _*_, _/_, _%_, _<_, _≤_}
@@ -11,7 +11,8 @@ use lib.Seq.{drop-cons}
 use mir.Syntax.{w16}
 use mir.ValLaws.{toZ-ofZ}
 use Rattle.octets.specs.Digits.{number, numberAfter, digits}
-use Rattle.samples.specs.Words.{unsigned, bytesOfAll}
+use Rattle.samples.specs.Words.{unsigned, turned, bytesOfAll}
+use Rattle.samples.proofs.Laws.{turned-number}
 use Rattle.sealer.proofs.four_bits.Statement.{statement}
 use Rattle.sealer.proofs.four_bits.Tie as tie
 
@@ -27,19 +28,19 @@ two-more before a rest h = ap (λ (v : ℕ). numberAfter 256 v rest) places
     places : (before * 256 + a / 256 % 256) * 256 + a / 1 % 256 ≡ before * 65536 + a
     places = omega arith
 
-sum : (a b c d : ℕ) → a < 65536 → b < 65536 → c < 65536 → d < 65536
-    → a * 281474976710656 + b * 4294967296 + c * 65536 + d ≡ fourNumber a b c d
+as-bytes : (a b c d : ℕ) → a < 65536 → b < 65536 → c < 65536 → d < 65536 → number 65536 (a ∷ b ∷ c ∷ d ∷ []) ≡ fourNumber a b c d
 unfolding numberAfter
-sum a b c d ha hb hc hd =
-    scaled
-    ∙ sym
+as-bytes a b c d ha hb hc hd =
+    sym
     (two-more 0 a (digits 256 2 b ++ (digits 256 2 c ++ (digits 256 2 d ++ []))) ha
     ∙ two-more (0 * 65536 + a) b (digits 256 2 c ++ (digits 256 2 d ++ [])) hb
     ∙ two-more ((0 * 65536 + a) * 65536 + b) c (digits 256 2 d ++ []) hc
     ∙ two-more (((0 * 65536 + a) * 65536 + b) * 65536 + c) d [] hd)
-  where
-    scaled : a * 281474976710656 + b * 4294967296 + c * 65536 + d ≡ (((0 * 65536 + a) * 65536 + b) * 65536 + c) * 65536 + d
-    scaled = omega arith
+
+-- what the code puts together
+lowest-first : (a b c d : ℕ) → d * 281474976710656 + c * 4294967296 + b * 65536 + a ≡ number 65536 (d ∷ c ∷ b ∷ a ∷ [])
+unfolding numberAfter
+lowest-first a b c d = omega arith
 
 four-taken : (zs : List ℤ) (from : ℕ) → from + 4 ≤ length zs
     → take 4 (drop from zs) ≡ getD zs from (pos 0) ∷ getD zs (from + 1) (pos 0) ∷ getD zs (from + 2) (pos 0) ∷ getD zs (from + 3) (pos 0) ∷ []
@@ -123,27 +124,31 @@ bits-requires-4 c κs = search needs
 cast-fourth : tie.Need-cast-fourth
 cast-fourth c = search needs
 
-mul-result : tie.Need-mul-result
-mul-result c = search needs
+mul-turned : tie.Need-mul-turned
+mul-turned c = search needs
 
-mul-result-2 : tie.Need-mul-result-2
-mul-result-2 c = search needs
+mul-turned-2 : tie.Need-mul-turned-2
+mul-turned-2 c = search needs
 
-add-result : tie.Need-add-result
-add-result c = search needs
+add-turned : tie.Need-add-turned
+add-turned c = search needs
 
-mul-result-3 : tie.Need-mul-result-3
-mul-result-3 c = search needs
+mul-turned-3 : tie.Need-mul-turned-3
+mul-turned-3 c = search needs
 
-add-result-2 : tie.Need-add-result-2
-add-result-2 c = search needs
+add-turned-2 : tie.Need-add-turned-2
+add-turned-2 c = search needs
 
-add-result-3 : tie.Need-add-result-3
-add-result-3 c = search needs
+add-turned-3 : tie.Need-add-turned-3
+add-turned-3 c = search needs
+
+turned-requires : tie.Need-turned-requires
+turned-requires c κs = search needs
 
 returns : tie.Need-returns
 returns c =
-    let three = c .before .before in
+    let four = c .before in
+    let three = four .before .before in
     let two = three .before .before in
     let one = two .before .before in
     let start = one .before .before in
@@ -152,13 +157,16 @@ returns c =
     let a : ℕ = one .bits .result in
     let b : ℕ = two .bits2 .result in
     let x : ℕ = three .bits3 .result in
-    let y : ℕ = c .bits4 .result in
-    sum a b x y (omega arith) (omega arith) (omega arith) (omega arith)
+    let y : ℕ = four .bits4 .result in
+    c .turned .ensures
+    ∙ ap turned (lowest-first a b x y)
+    ∙ turned-number y x b a (omega arith) (omega arith) (omega arith) (omega arith)
+    ∙ as-bytes a b x y (omega arith) (omega arith) (omega arith) (omega arith)
     ∙ four-number zs (p .from) a b x y (start .pre)
     (one .bits .ensures ∙ ap unsigned (toZ-ofZ w16 (getD zs (p .from) (pos 0)) (sfits-of (one .before .bits-arg .given))))
     (two .bits2 .ensures ∙ ap unsigned (toZ-ofZ w16 (getD zs (p .from + 1) (pos 0)) (sfits-of (two .before .bits-arg2 .given))))
     (three .bits3 .ensures ∙ ap unsigned (toZ-ofZ w16 (getD zs (p .from + 2) (pos 0)) (sfits-of (three .before .bits-arg3 .given))))
-    (c .bits4 .ensures ∙ ap unsigned (toZ-ofZ w16 (getD zs (p .from + 3) (pos 0)) (sfits-of (c .before .bits-arg4 .given))))
+    (four .bits4 .ensures ∙ ap unsigned (toZ-ofZ w16 (getD zs (p .from + 3) (pos 0)) (sfits-of (four .before .bits-arg4 .given))))
 
 pub four-bits-spec : {M : Type 1} → statement M
 four-bits-spec =
@@ -183,10 +191,11 @@ four-bits-spec =
     shared-slice-copy-out-bits-4
     bits-requires-4
     cast-fourth
-    mul-result
-    mul-result-2
-    add-result
-    mul-result-3
-    add-result-2
-    add-result-3
+    mul-turned
+    mul-turned-2
+    add-turned
+    mul-turned-3
+    add-turned-2
+    add-turned-3
+    turned-requires
     returns)

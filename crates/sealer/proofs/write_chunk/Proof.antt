@@ -1,8 +1,8 @@
 -- `sealer::write_chunk` meets its contract: a stride's word enciphers the bytes of four samples, and the next stride's those of the four behind them.
 -- Assumes nothing.
 use mathlib.Core.Path.{_≡_, sym, ap, ap₂, _∙_}
-use Prim.Native.Nat.{ℕ, zero, suc, _+_, _*_, _≤_}
-use mathlib.Core.List.{List, [], _∷_, _++_}
+use Prim.Native.Nat.{ℕ, _+_, _*_, _≤_}
+use mathlib.Core.List.{List, _++_}
 use native.Mathlib.Omega.{arith}
 use borrow.Author.Needs.{needs}
 use lib.Bits.{bitXor}
@@ -11,41 +11,32 @@ use lib.ListN.{length, take, drop, length-drop}
 use lib.Seq.{take-add, drop-drop, length-take-le}
 use Rattle.octets.specs.Digits.{number, digits}
 use Rattle.octets.specs.Stream.{Keystream, from, enciphered, placed}
-use Rattle.octets.proofs.Numbers.{Below}
 use Rattle.octets.proofs.Streams.{length-enciphered, enciphered-append, placed-append}
 use Rattle.samples.specs.Words.{bytesOfAll}
-use Rattle.samples.proofs.Laws.{length-bytes, bytes-append}
-use Rattle.trivium.specs.Calls.{striding, skipping}
+use Rattle.samples.proofs.Laws.{length-bytes, bytes-append, bytes-below}
+use Rattle.trivium.specs.Calls.{running}
 use Rattle.trivium.specs.Keystream.{bits, keystream}
 use Rattle.trivium.specs.Record.{state}
 use Rattle.trivium.specs.Registers.{State, steps}
-use Rattle.trivium.specs.declared.Registers.{Registers}
-use Rattle.trivium.specs.declared.Strode.{Strode}
+use Rattle.trivium.specs.declared.Ran.{Ran}
+use Rattle.trivium.specs.declared.Running.{Running}
 use Rattle.trivium.proofs.Bytes.{keystream-from, run-enciphered}
-use Rattle.trivium.proofs.Steps.{state-skip, skip-add, stride-skips}
+use Rattle.trivium.proofs.Steps.{steps-add, ran-word, ran-state}
 use Rattle.sealer.proofs.write_chunk.Statement.{statement}
 use Rattle.sealer.proofs.write_chunk.Tie as tie
-
-bytes-below : (zs : List ℤ) → Below 256 (bytesOfAll zs)
-unfolding bytesOfAll digits
-bytes-below [] i = omega arith
-bytes-below (z ∷ zs) zero = omega arith
-bytes-below (z ∷ zs) (suc zero) = omega arith
-bytes-below (z ∷ zs) (suc (suc i)) = bytes-below zs i
 
 -- so many samples as bytes
 size : (zs : List ℤ) (from n : ℕ) → from + n ≤ length zs → length (bytesOfAll (take n (drop from zs))) ≡ 2 * n
 size zs from n h = length-bytes (take n (drop from zs)) ∙ ap (λ (k : ℕ). 2 * k) (length-take-le n (drop from zs) (simp length-drop (omega arith)))
 
 -- a stride's word and the bytes of four samples, as a word
-sealed : (r : Registers) (strode : Strode) (zs : List ℤ) (from word : ℕ) → strode ≡ striding r → word ≡ number 256 (bytesOfAll (take 4 (drop from zs))) → from + 4 ≤ length zs
-    → digits 256 8 (bitXor word (strode .word)) ≡ enciphered (keystream (state r)) (bytesOfAll (take 4 (drop from zs)))
-unfolding striding
-sealed r strode zs from word e same h =
+sealed : (w : Running) (ran : Ran) (zs : List ℤ) (from word : ℕ) → ran ≡ running w → word ≡ number 256 (bytesOfAll (take 4 (drop from zs))) → from + 4 ≤ length zs
+    → digits 256 8 (bitXor word (ran .word)) ≡ enciphered (keystream (state (w .registers))) (bytesOfAll (take 4 (drop from zs)))
+sealed w ran zs from word e same h =
     let run : List ℕ = bytesOfAll (take 4 (drop from zs)) in
-    ap₂ (λ (x : ℕ) (y : Strode). digits 256 8 (bitXor x (y .word))) same e
-    ∙ ap (λ (n : ℕ). digits 256 n (bitXor (number 256 run) (number 2 (bits (8 * n) (state r))))) (sym (size zs from 4 h))
-    ∙ run-enciphered run (state r) (bytes-below (take 4 (drop from zs)))
+    ap₂ (λ (x y : ℕ). digits 256 8 (bitXor x y)) same (ran-word w ran e)
+    ∙ ap (λ (n : ℕ). digits 256 n (bitXor (number 256 run) (number 2 (bits (8 * n) (state (w .registers)))))) (sym (size zs from 4 h))
+    ∙ run-enciphered run (state (w .registers)) (bytes-below (take 4 (drop from zs)))
 
 -- the bytes of four samples, and those of the four behind them
 both : (s mid : State) (zs : List ℤ) (output left : List ℕ) (from at : ℕ) → from + 8 ≤ length zs → at + 16 ≤ length output → mid ≡ steps 64 s
@@ -76,6 +67,9 @@ four-bits-requires c κs = search needs
 stride-requires : tie.Need-stride-requires
 stride-requires c κs = search needs
 
+stride-requires-2 : tie.Need-stride-requires-2
+stride-requires-2 c κs = search needs
+
 put-word-requires : tie.Need-put-word-requires
 put-word-requires c κs = search needs
 
@@ -84,9 +78,6 @@ add-four-bits c = search needs
 
 four-bits-requires-2 : tie.Need-four-bits-requires-2
 four-bits-requires-2 c κs = search needs
-
-stride-requires-2 : tie.Need-stride-requires-2
-stride-requires-2 c κs = search needs
 
 add-put-word : tie.Need-add-put-word
 add-put-word c = search needs
@@ -100,25 +91,26 @@ same-length c = search needs
 returns : tie.Need-returns
 returns c =
     let put2 = c .before .before .before in
-    let stride2 = put2 .before .before .before in
-    let four2 = stride2 .before in
+    let four2 = put2 .before .before .before in
     let put1 = four2 .before .before .before in
-    let stride1 = put1 .before .before .before in
+    let stride2 = put1 .before .before in
+    let stride1 = stride2 .before .before in
     let four1 = stride1 .before in
     let start = four1 .before .before in
     let p = start .args in
-    let one : Strode = stride1 .stride .result in
+    let one : Ran = stride1 .stride .result in
+    let two : Ran = stride2 .stride2 .result in
     let left : List ℕ = put1 .put-word .last .0 in
-    let on : one .next ≡ skipping (p .registers) 8 = stride-skips (p .registers) one (stride1 .stride .ensures) in (
-      stride-skips (one .next) (stride2 .stride2 .result) (stride2 .stride2 .ensures) ∙ ap (λ (r : Registers). skipping r 8) on ∙ skip-add (p .registers) 8 8,
+    let s : State = state (p .running .registers) in
+    let on : state (one .next .registers) ≡ steps 64 s = ran-state (p .running) one (stride1 .stride .ensures) in (
+      ran-state (one .next) two (stride2 .stride2 .ensures) ∙ ap (steps 64) on ∙ sym (steps-add 64 64 s),
       put2 .put-word2 .ensures
           ∙ ap (placed left (p .at + 8))
-          (sealed (one .next) (stride2 .stride2 .result) (p .samples .now) (p .from + 4) (four2 .four-bits2 .result) (stride2 .stride2 .ensures) (four2 .four-bits2 .ensures) (omega arith))
-          ∙ both (state (p .registers)) (state (one .next)) (p .samples .now) (p .output .now) left (p .from) (p .at) (start .pre .0) (start .pre .1)
-          (ap state on ∙ state-skip (p .registers) 8)
+          (sealed (one .next) two (p .samples .now) (p .from + 4) (four2 .four-bits2 .result) (stride2 .stride2 .ensures) (four2 .four-bits2 .ensures) (omega arith))
+          ∙ both s (state (one .next .registers)) (p .samples .now) (p .output .now) left (p .from) (p .at) (start .pre .0) (start .pre .1) on
           (put1 .put-word .ensures
           ∙ ap (placed (p .output .now) (p .at))
-          (sealed (p .registers) one (p .samples .now) (p .from) (four1 .four-bits .result) (stride1 .stride .ensures) (four1 .four-bits .ensures) (omega arith))),
+          (sealed (p .running) one (p .samples .now) (p .from) (four1 .four-bits .result) (stride1 .stride .ensures) (four1 .four-bits .ensures) (omega arith))),
     )
 
 pub write-chunk-spec : {M : Type 1} → statement M
@@ -127,10 +119,10 @@ write-chunk-spec =
     (tie.spec
     four-bits-requires
     stride-requires
+    stride-requires-2
     put-word-requires
     add-four-bits
     four-bits-requires-2
-    stride-requires-2
     add-put-word
     put-word-requires-2
     same-length

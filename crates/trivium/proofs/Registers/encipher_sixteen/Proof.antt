@@ -12,19 +12,20 @@ use Rattle.octets.specs.Digits.{numberAt}
 use Rattle.octets.specs.Stream.{numberPlaced}
 use Rattle.trivium.specs.Record.{state}
 use Rattle.trivium.specs.Registers.{State, steps}
+use Rattle.trivium.specs.declared.Running.{Running}
 use Rattle.trivium.proofs.Bytes.{run-written, two-calls}
-use Rattle.trivium.proofs.Steps.{steps-add}
+use Rattle.trivium.proofs.Steps.{steps-add, ran-word, ran-state}
 use Rattle.trivium.proofs.Registers.encipher_sixteen.Statement.{statement}
 use Rattle.trivium.proofs.Registers.encipher_sixteen.Tie as tie
 
-stride-untrimmed-requires : tie.Need-stride-untrimmed-requires
-stride-untrimmed-requires c κs = search needs
+stride-requires : tie.Need-stride-requires
+stride-requires c κs = search needs
 
 encipher-word-requires : tie.Need-encipher-word-requires
 encipher-word-requires c κs = search needs
 
-stride-untrimmed-requires-2 : tie.Need-stride-untrimmed-requires-2
-stride-untrimmed-requires-2 c κs = search needs
+stride-requires-2 : tie.Need-stride-requires-2
+stride-requires-2 c κs = search needs
 
 add-encipher-word : tie.Need-add-encipher-word
 add-encipher-word c = search needs
@@ -45,16 +46,19 @@ returns c =
     let p = start .args in
     let bytes : Below 256 (p .input .now) = λ i. omega (arith, first .before .before .shared-slice-known .given i) in
     let s : State = state (p .self) in
-    let mid : State = state (first .stride-untrimmed .result .next) in
+    let mid : State = state (first .stride .result .next .registers) in
+    let begun : Running = record { registers = p .self } in
+    let reached : mid ≡ steps 64 s = ran-state begun (first .stride .result) (first .stride .ensures) in
+    let onward : Running = first .stride .result .next in
     let left : List ℕ = one .encipher-word .last .1 .0 in
     let room : length left ≡ length (p .output .now) = one .encipher-word .kept .1 .0 in (
-      later .stride-untrimmed2 .ensures .1 ∙ ap (steps 64) (first .stride-untrimmed .ensures .1) ∙ sym (steps-add 64 64 s),
+      ran-state onward (later .stride2 .result) (later .stride2 .ensures) ∙ ap (steps 64) reached ∙ sym (steps-add 64 64 s),
       two .encipher-word2 .ensures
-          ∙ ap (λ (z : ℕ). numberPlaced left (p .at + 8) 8 (bitXor (numberAt (p .input .now) (p .at + 8) 8) z)) (later .stride-untrimmed2 .ensures .0)
+          ∙ ap (λ (z : ℕ). numberPlaced left (p .at + 8) 8 (bitXor (numberAt (p .input .now) (p .at + 8) 8) z)) (ran-word onward (later .stride2 .result) (later .stride2 .ensures))
           ∙ run-written (p .input .now) (p .at + 8) 8 mid (omega arith) (omega arith) bytes left (omega arith)
-          ∙ two-calls s mid (p .input .now) (p .output .now) left (p .at) 8 8 (start .pre .0) (start .pre .1) (first .stride-untrimmed .ensures .1)
+          ∙ two-calls s mid (p .input .now) (p .output .now) left (p .at) 8 8 (start .pre .0) (start .pre .1) reached
           (one .encipher-word .ensures
-          ∙ ap (λ (z : ℕ). numberPlaced (p .output .now) (p .at) 8 (bitXor (numberAt (p .input .now) (p .at) 8) z)) (first .stride-untrimmed .ensures .0)
+          ∙ ap (λ (z : ℕ). numberPlaced (p .output .now) (p .at) 8 (bitXor (numberAt (p .input .now) (p .at) 8) z)) (ran-word begun (first .stride .result) (first .stride .ensures))
           ∙ run-written (p .input .now) (p .at) 8 s (omega arith) (omega arith) bytes (p .output .now) (omega arith)),
     )
 
@@ -62,9 +66,9 @@ pub encipher-sixteen-spec : {M : Type 1} → statement M
 encipher-sixteen-spec =
     tie.close
     (tie.spec
-    stride-untrimmed-requires
+    stride-requires
     encipher-word-requires
-    stride-untrimmed-requires-2
+    stride-requires-2
     add-encipher-word
     encipher-word-requires-2
     same-length
