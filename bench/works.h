@@ -18,6 +18,8 @@ enum {
     PACK_SIZES = 10 /* SMALLEST_BYTES, doubled up to LARGEST_PACK_BYTES */
 };
 
+_Static_assert(SMALLEST_BYTES << (PACK_SIZES - 1) == LARGEST_PACK_BYTES, "one pack size for each doubling");
+
 extern const uint8_t ring[SEMIVRAKH_RING_BYTES];
 extern const uint8_t value[SEMIVRAKH_VALUE_BYTES];
 extern const uint8_t pair[SEMIVRAKH_PAIR_BYTES];

@@ -1,5 +1,5 @@
-# Sourced by the scripts that compile C or run x86-64 programs. Gives `cc` and `cxx`, compilers for x86-64, and `run`,
-# what a program of that kind is started with: nothing on x86-64, an emulator on any other processor.
+# Sourced by the scripts that compile C or run x86-64 programs. Gives `cc` and `cxx`, compilers for x86-64, `run`, what a
+# program of that kind is started with (nothing on x86-64, an emulator on any other processor), and `quietly`.
 # Whatever is missing is installed from Debian's packages, by need_compilers and need_runner.
 
 # Nothing here reads standard input: it belongs to the program that is run in the end.
@@ -10,6 +10,16 @@ install_packages() {
     [ -n "${lists_are_new-}" ] || "${as_root[@]}" apt-get update -qq </dev/null >&2
     lists_are_new=yes
     "${as_root[@]}" apt-get install -y -qq "$@" </dev/null >&2
+}
+
+# quietly COMMAND..: what the command prints goes to the file that `log` names, and is shown only if the command fails
+quietly() {
+    local status=0
+    "$@" >"$log" 2>&1 || status=$?
+    [ "$status" -eq 0 ] && return
+    cat "$log" >&2
+    echo "failed: $*" >&2
+    return "$status"
 }
 
 # The one thing that can't be installed from there.
