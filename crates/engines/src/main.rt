@@ -6,6 +6,7 @@ use trials::equal;
 use trials::shuffled;
 use trials::walk;
 use trivium::Registers;
+use trivium::Running;
 ghost use Prim.Native.Nat.{_≤_};
 
 // Where the pseudo-random words start.
@@ -23,6 +24,12 @@ const A_TOP: u64 = 536870912;
 const B_TOP: u64 = 1048576;
 
 const C_TOP: u64 = 140737488355328;
+
+// What strides show: that each leads where 64 steps lead, by itself and in a run.
+struct Strides {
+    alone: Tally,
+    in_a_run: Tally,
+}
 
 // What skips show: that they lead where steps and encipher lead, and that no bit is left above a register's own.
 struct Skips {
@@ -69,24 +76,47 @@ fn stride_agrees(from: Registers) -> bool {
     strode.word == stepped.word && equal(strode.next, stepped.next)
 }
 
-// Contents whose bits are all the same.
-fn even_strides() -> Tally {
-    let zero = stride_agrees(all_words(0));
-    let one = stride_agrees(all_words(u64::MAX));
-    Tally::empty().case(zero).case(one)
+// The second stride of a run meets the bits that the first has left above a register's own.
+fn run_agrees(from: Registers) -> bool {
+    let running = Running { registers: from };
+    let one = running.stride();
+    let two = one.next.stride();
+    let stepped = walk(from, 64);
+    let further = walk(stepped.next, 64);
+    one.word == stepped.word
+        && two.word == further.word
+        && equal(trimmed(two.next.registers), further.next)
 }
 
-fn with_random_strides(so_far: Tally) -> Tally {
-    let mut tally = so_far;
+impl Strides {
+    fn case(self, from: Registers) -> Strides {
+        Strides {
+            alone: self.alone.case(stride_agrees(from)),
+            in_a_run: self.in_a_run.case(run_agrees(from)),
+        }
+    }
+}
+
+// Contents whose bits are all the same.
+fn even_strides() -> Strides {
+    let none = Strides {
+        alone: Tally::empty(),
+        in_a_run: Tally::empty(),
+    };
+    none.case(all_words(0)).case(all_words(u64::MAX))
+}
+
+fn with_random_strides(so_far: Strides) -> Strides {
+    let mut strides = so_far;
     let mut last = SEED;
     let mut left = CONTENTS_TO_STRIDE;
     while 0 < left {
         let contents = contents_after(last);
         last = contents.c0;
-        tally = tally.case(stride_agrees(contents));
+        strides = strides.case(contents);
         left -= 1;
     }
-    tally
+    strides
 }
 
 // The registers after so many bytes of keystream, by encipher.
@@ -146,8 +176,13 @@ fn with_random_skips(so_far: Skips) -> Skips {
 }
 
 fn main() {
-    with_random_strides(even_strides()).report(
+    let strides = with_random_strides(even_strides());
+    strides.alone.report(
         b"a stride against 64 steps, from random contents and from all 0 and all 1",
+        2002,
+    );
+    strides.in_a_run.report(
+        b"two strides in a run against 128 steps, from the same contents",
         2002,
     );
     let skips = with_random_skips(no_skips());

@@ -1,7 +1,7 @@
 ghost use mathlib.Core.Path.{_≡_};
 ghost use Prim.Native.Nat.{_+_, _*_, _/_, _<_, _≤_};
-ghost use lib.ListN.{length, take, drop};
-ghost use Rattle.octets.specs.Digits.{digits};
+ghost use lib.ListN.{length, drop};
+ghost use Rattle.octets.specs.Digits.{slice, digits};
 ghost use Rattle.octets.specs.Outcome.{outcome};
 ghost use Rattle.octets.specs.Stream.{enciphered, placed};
 ghost use Rattle.pack.specs.Calls.{refusedOpening, surveying, opening};
@@ -219,7 +219,7 @@ fn put_four(output: &mut [i16], place: usize, word: u64)
 fn read_chunk(running: Running, body: &[u8], output: &mut [i16], at: usize) -> Running
     requires { ⌜ (at + 16 ≤ length (now body)) × (at / 2 + 8 ≤ length (now output)) ⌝ }
     ensures { λ r. ⌜ (state (r .registers) ≡ steps 128 (state (running .registers)))
-        × (now (output .exit) ≡ placed (now (output .entry)) (at / 2) (wordsOf (enciphered (keystream (state (running .registers))) (take 16 (drop at (now (body .entry))))))) ⌝ }
+        × (now (output .exit) ≡ placed (now (output .entry)) (at / 2) (wordsOf (enciphered (keystream (state (running .registers))) (slice (now (body .entry)) at 16)))) ⌝ }
 {
     let place = at / 2;
     let one = running.stride();
@@ -241,7 +241,7 @@ fn blank() -> [u8; 16]
 // The bytes from `at` behind the last chunk, deciphered and read as samples to their place.
 fn read_rest(registers: Registers, body: &[u8], output: &mut [i16], at: usize, size: usize)
     requires { ⌜ (size ≤ 16) × (at + size ≤ length (now body)) × (at / 2 + size / 2 ≤ length (now output)) ⌝ }
-    ensures { λ _. ⌜ now (output .exit) ≡ placed (now (output .entry)) (at / 2) (wordsOf (enciphered (keystream (state registers)) (take size (drop at (now (body .entry)))))) ⌝ }
+    ensures { λ _. ⌜ now (output .exit) ≡ placed (now (output .entry)) (at / 2) (wordsOf (enciphered (keystream (state registers)) (slice (now (body .entry)) at size))) ⌝ }
 {
     let mut chunk = blank();
     let end = at + size;

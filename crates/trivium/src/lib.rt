@@ -1,8 +1,8 @@
 ghost use mathlib.Core.Path.{_≡_};
 ghost use Prim.Native.Nat.{_+_, _*_, _%_, _^_, _<_, _≤_};
 ghost use lib.Bits.{bitXor};
-ghost use lib.ListN.{length, take, drop};
-ghost use Rattle.octets.specs.Digits.{number, numberAt};
+ghost use lib.ListN.{length};
+ghost use Rattle.octets.specs.Digits.{number, slice, numberAt};
 ghost use Rattle.octets.specs.Outcome.{outcome};
 ghost use Rattle.octets.specs.Stream.{enciphered, placed, numberPlaced};
 ghost use Rattle.trivium.specs.Calls.{refusedMaking, making, stepping, striding, running, skipping, enciphering};
@@ -310,7 +310,7 @@ impl Registers {
     fn encipher_some(self, input: &[u8], output: &mut [u8], at: usize, bytes: usize) -> Registers
         requires { ⌜ (bytes ≤ 8) × (at + bytes ≤ length (now input)) × (at + bytes ≤ length (now output)) ⌝ }
         ensures { λ r. ⌜ (r ≡ skipping self bytes)
-            × (now (output .exit) ≡ placed (now (output .entry)) at (enciphered (keystream (state self)) (take bytes (drop at (now (input .entry)))))) ⌝ }
+            × (now (output .exit) ≡ placed (now (output .entry)) at (enciphered (keystream (state self)) (slice (now (input .entry)) at bytes))) ⌝ }
     {
         let strode = self.part(bytes);
         let word = octets::number_at(input, at, bytes) ^ strode.word;
@@ -322,7 +322,7 @@ impl Registers {
     fn encipher_sixteen(self, input: &[u8], output: &mut [u8], at: usize) -> Registers
         requires { ⌜ (at + 16 ≤ length (now input)) × (at + 16 ≤ length (now output)) ⌝ }
         ensures { λ r. ⌜ (state r ≡ steps 128 (state self))
-            × (now (output .exit) ≡ placed (now (output .entry)) at (enciphered (keystream (state self)) (take 16 (drop at (now (input .entry)))))) ⌝ }
+            × (now (output .exit) ≡ placed (now (output .entry)) at (enciphered (keystream (state self)) (slice (now (input .entry)) at 16))) ⌝ }
     {
         let running = Running { registers: self };
         let one = running.stride();
@@ -336,7 +336,7 @@ impl Registers {
     fn encipher_rest(self, input: &[u8], output: &mut [u8], at: usize, bytes: usize) -> Registers
         requires { ⌜ (bytes ≤ 16) × (at + bytes ≤ length (now input)) × (at + bytes ≤ length (now output)) ⌝ }
         ensures { λ r. ⌜ (r ≡ skipping self bytes)
-            × (now (output .exit) ≡ placed (now (output .entry)) at (enciphered (keystream (state self)) (take bytes (drop at (now (input .entry)))))) ⌝ }
+            × (now (output .exit) ≡ placed (now (output .entry)) at (enciphered (keystream (state self)) (slice (now (input .entry)) at bytes))) ⌝ }
     {
         if bytes <= 8 {
             return self.encipher_some(input, output, at, bytes);

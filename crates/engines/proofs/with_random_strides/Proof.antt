@@ -5,19 +5,16 @@ use Rattle.engines.proofs.with_random_strides.Statement.{statement}
 use Rattle.engines.proofs.with_random_strides.Tie as tie
 
 abbrev Inv-loop : tie.InvT-loop
-Inv-loop tally₀ last₀ left₀ tally last left = Unit {0}
+Inv-loop strides₀ last₀ left₀ strides last left = Unit {0}
 
 abbrev μ-loop : tie.MeasureT-loop
-μ-loop tally₀ last₀ left₀ tally last left = left
+μ-loop strides₀ last₀ left₀ strides last left = left
 
 loop-holds : tie.Need-loop-holds Inv-loop μ-loop
 loop-holds c = tt
 
 contents-after-requires : tie.Need-contents-after-requires Inv-loop μ-loop
 contents-after-requires c κs = tt
-
-stride-agrees-requires : tie.Need-stride-agrees-requires Inv-loop μ-loop
-stride-agrees-requires c κs = tt
 
 case-requires : tie.Need-case-requires Inv-loop μ-loop
 case-requires c κs = tt
@@ -42,7 +39,6 @@ with-random-strides-spec =
     μ-loop
     loop-holds
     contents-after-requires
-    stride-agrees-requires
     case-requires
     sub-left
     loop-less
