@@ -53,49 +53,9 @@ static void chacha20_encipher(const uint8_t *input, uint8_t *output, size_t coun
 #define CHACHA20 CAUSE, NULL, NULL
 #endif
 
-#ifdef LTC_RABBIT
-static rabbit_state rabbit;
-
-static void rabbit_restart(void)
-{
-    rabbit_setup(&rabbit, counted, KEY_BYTES);
-    rabbit_setiv(&rabbit, counted, SHORT_VALUE_BYTES);
-}
-
-static void rabbit_encipher(const uint8_t *input, uint8_t *output, size_t count)
-{
-    rabbit_crypt(&rabbit, input, count, output);
-}
-
-#define RABBIT NULL, rabbit_restart, rabbit_encipher
-#else
-#define RABBIT CAUSE, NULL, NULL
-#endif
-
-#ifdef LTC_SOSEMANUK
-static sosemanuk_state sosemanuk;
-
-static void sosemanuk_restart(void)
-{
-    sosemanuk_setup(&sosemanuk, counted, KEY_BYTES);
-    sosemanuk_setiv(&sosemanuk, counted, LONG_VALUE_BYTES);
-}
-
-static void sosemanuk_encipher(const uint8_t *input, uint8_t *output, size_t count)
-{
-    sosemanuk_crypt(&sosemanuk, input, count, output);
-}
-
-#define SOSEMANUK NULL, sosemanuk_restart, sosemanuk_encipher
-#else
-#define SOSEMANUK CAUSE, NULL, NULL
-#endif
-
 const struct peer tomcrypt_peers[] = {
     { "SOBER-128, libtomcrypt", SOBER128 },
     { "ChaCha20, libtomcrypt", CHACHA20 },
-    { "Rabbit, libtomcrypt", RABBIT },
-    { "Sosemanuk, libtomcrypt", SOSEMANUK },
 };
 
 const size_t tomcrypt_peer_count = sizeof tomcrypt_peers / sizeof tomcrypt_peers[0];

@@ -15,19 +15,17 @@
 #include "families.h"
 #include "lend.h"
 #include "model.h"
+#include "options.h"
 #include "random.h"
 
 struct size {
-    const char *name;
     uint64_t comparisons;        /* at least */
     uint64_t each_number;        /* over all calls, at least */
     uint64_t each_number_a_call; /* for a call that lists it, at least */
 };
 
-static const struct size sizes[] = {
-    {"--short", 60000, 100, 1},
-    {"--long", 3000000, 100, 100},
-};
+static const struct size short_run = {60000, 100, 1};
+static const struct size long_run = {3000000, 100, 100};
 
 static void (*const families[])(void) = {
     making_ciphers,      enciphering,       streams_in_pieces,    damaged_ciphers, random_cipher_input,
@@ -135,19 +133,12 @@ static int usage(void) {
 }
 
 int main(int count, char **words) {
-    const struct size *size = NULL;
-    const char *broken = "";
-    uint64_t seed = 1;
-    for (int i = 1; i < count; i++) {
-        if (strcmp(words[i], "--seed") == 0 && i + 1 < count) seed = strtoull(words[++i], NULL, 0);
-        else if (strcmp(words[i], "--broken") == 0 && i + 1 < count) broken = words[++i];
-        else if (strcmp(words[i], sizes[0].name) == 0) size = &sizes[0];
-        else if (strcmp(words[i], sizes[1].name) == 0) size = &sizes[1];
-        else return usage();
-    }
-    if (size == NULL) return usage();
-    printf("compare %s, seed %" PRIu64 "\n", size->name, seed);
-    random_start(seed);
+    struct options options;
+    if (!read_options(&options, count, words)) return usage();
+    const struct size *size = options.is_long ? &long_run : &short_run;
+    const char *broken = options.broken;
+    printf("compare %s, seed %" PRIu64 "\n", options.size, options.seed);
+    random_start(options.seed);
     fill_noise();
     if (strcmp(broken, "vector") == 0) break_tap();
     check_vector();

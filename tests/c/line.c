@@ -17,18 +17,15 @@
  */
 #include <inttypes.h>
 #include <stdio.h>
-#include <stdlib.h>
 #include <string.h>
 
 #include "line_ends.h"
+#include "options.h"
 #include "random.h"
 
 enum { BAG = 100 };
 
-static const struct size {
-    const char *name;
-    uint64_t transfers;
-} sizes[] = {{"--short", 1000}, {"--long", 20000}};
+static const uint64_t SHORT_RUN = 1000, LONG_RUN = 20000; /* transfers, at least */
 
 enum broken { NOTHING, ALTER, RECORD, BUFFER };
 static enum broken broken;
@@ -232,29 +229,22 @@ static int usage(void) {
 }
 
 static bool read_broken(const char *word) {
-    static const char *const words[] = {[ALTER] = "alter", [RECORD] = "record", [BUFFER] = "buffer"};
-    for (broken = ALTER; broken <= BUFFER; broken++) {
+    static const char *const words[] = {[NOTHING] = "", [ALTER] = "alter", [RECORD] = "record", [BUFFER] = "buffer"};
+    for (broken = NOTHING; broken <= BUFFER; broken++) {
         if (strcmp(word, words[broken]) == 0) return true;
     }
     return false;
 }
 
 int main(int count, char **words) {
-    const struct size *size = NULL;
-    uint64_t seed = 1;
-    for (int i = 1; i < count; i++) {
-        if (strcmp(words[i], "--seed") == 0 && i + 1 < count) seed = strtoull(words[++i], NULL, 0);
-        else if (strcmp(words[i], "--broken") == 0 && i + 1 < count && read_broken(words[i + 1])) i++;
-        else if (strcmp(words[i], sizes[0].name) == 0) size = &sizes[0];
-        else if (strcmp(words[i], sizes[1].name) == 0) size = &sizes[1];
-        else return usage();
-    }
-    if (size == NULL) return usage();
-    printf("line %s, seed %" PRIu64 "\n", size->name, seed);
-    random_start(seed);
+    struct options options;
+    if (!read_options(&options, count, words) || !read_broken(options.broken)) return usage();
+    uint64_t transfers = options.is_long ? LONG_RUN : SHORT_RUN;
+    printf("line %s, seed %" PRIu64 "\n", options.size, options.seed);
+    random_start(options.seed);
     worked_example(65, 3);
     worked_example(0, 1);
-    while (counted.transfers < size->transfers) one_pair();
+    while (counted.transfers < transfers) one_pair();
     if (!print_counts()) return 1;
     printf("line: %" PRIu64 " transfers, %" PRIu64 " moments, no fault\n", counted.transfers, counted.moments);
     return 0;
