@@ -6,12 +6,12 @@ use mathlib.Core.Path.{_≡_, refl, sym, ap, ap₂, _∙_}
 use native.Mathlib.Nat.{mod-eq-of-lt}
 use native.Mathlib.Numerals.{add-one}
 use native.Mathlib.Omega.{arith}
-use borrow.Author.Tests.{le-leb, ne-eqb}
+use borrow.Author.Tests.{ne-eqb}
 use lib.IntN.{ℤ}
 use lib.ListN.{length, getD, set, take, drop, length-append, length-drop}
 use lib.Seq.{drop-cons, take-add, take-all, length-take-le, sets-eq}
 use Rattle.octets.proofs.Numbers.{length-digits}
-use Rattle.octets.proofs.Streams.{length-placed, length-enciphered, enciphered-append, placed-append}
+use Rattle.octets.proofs.Streams.{number-placed, length-placed, length-enciphered, enciphered-append, placed-append}
 use Rattle.octets.specs.Digits.{digits}
 use Rattle.octets.specs.Outcome.{outcome}
 use Rattle.octets.specs.Stream.{Keystream, from, enciphered, placed, numberPlaced}
@@ -33,10 +33,6 @@ use Rattle.trivium.specs.Registers.{started}
 pub placed-byte : (d : List ℕ) (at x : ℕ) → at < length d → set d at x ≡ placed d at (x ∷ [])
 unfolding placed
 placed-byte d at x h = sets-eq (x ∷ []) d at (omega arith)
-
-pub placed-four : (d : List ℕ) (at value : ℕ) → at + 4 ≤ length d → numberPlaced d at 4 value ≡ placed d at (digits 256 4 value)
-unfolding numberPlaced
-placed-four d at value room = rw (le-leb (at + 4) (length d) room)
 
 -- a run behind another, at a place that is counted
 pub placed-then : (d : List ℕ) (at next : ℕ) (xs ys : List ℕ) → next ≡ at + length xs → next + length ys ≤ length d
@@ -73,8 +69,8 @@ loop-placed d at start end room =
     let long : length (digits 256 4 start) ≡ 4 = length-digits 256 4 start in
     let long' : length (digits 256 4 end) ≡ 4 = length-digits 256 4 end in
     let size : length one ≡ length d = length-placed d at (digits 256 4 start) (omega arith) in
-    ap (λ (l : List ℕ). numberPlaced l (at + 4) 4 end) (placed-four d at start (omega arith))
-    ∙ placed-four one (at + 4) end (omega arith)
+    ap (λ (l : List ℕ). numberPlaced l (at + 4) 4 end) (number-placed d at 4 start (omega arith) (omega arith))
+    ∙ number-placed one (at + 4) 4 end (omega arith) (omega arith)
     ∙ placed-then d at (at + 4) (digits 256 4 start) (digits 256 4 end) (omega arith) (omega arith)
 
 -- ---- loops, two numbers at a time
@@ -137,6 +133,10 @@ loops-placed d loops at i count small all e room =
 
 -- ---- samples, so many at a time
 
+pub length-some : (samples : List ℤ) (at n : ℕ) → at + n ≤ length samples → length (bytesOfAll (take n (drop at samples))) ≡ 2 * n
+length-some samples at n h =
+    length-bytes (take n (drop at samples)) ∙ ap (λ (k : ℕ). 2 * k) (length-take-le n (drop at samples) (simp length-drop (omega arith)))
+
 -- the samples as far as `done`, and then m further: what a call that goes on from there has to write
 pub samples-more : (k : Keystream) (samples : List ℤ) (d : List ℕ) (at done m : ℕ) → done + m ≤ length samples → at + 2 * length samples ≤ length d
     → placed (placed d at (enciphered k (bytesOfAll (take done samples)))) (at + 2 * done) (enciphered (from (2 * done) k) (bytesOfAll (take m (drop done samples))))
@@ -144,8 +144,8 @@ pub samples-more : (k : Keystream) (samples : List ℤ) (d : List ℕ) (at done 
 samples-more k samples d at done m h room =
     let front : List ℕ = bytesOfAll (take done samples) in
     let more : List ℕ = bytesOfAll (take m (drop done samples)) in
-    let taken : length front ≡ 2 * done = length-bytes (take done samples) ∙ ap (λ (n : ℕ). 2 * n) (length-take-le done samples (omega arith)) in
-    let size : length more ≡ 2 * m = length-bytes (take m (drop done samples)) ∙ ap (λ (n : ℕ). 2 * n) (length-take-le m (drop done samples) (simp length-drop (omega arith))) in
+    let taken : length front ≡ 2 * done = length-some samples 0 done (omega arith) in
+    let size : length more ≡ 2 * m = length-some samples done m h in
     let long : length (enciphered k front) ≡ 2 * done = length-enciphered k front ∙ taken in
     let short : length (enciphered (from (2 * done) k) more) ≡ 2 * m = length-enciphered (from (2 * done) k) more ∙ size in
     placed-then d at (at + 2 * done) (enciphered k front) (enciphered (from (2 * done) k) more) (omega arith) (omega arith)
@@ -206,7 +206,7 @@ layout-placed ring p d ten room =
     let one : length (placed d 0 name) ≡ length d = length-placed d 0 name (omega arith) in
     let two : length (placed (placed d 0 name) n key) ≡ length d = length-placed (placed d 0 name) n key (omega arith) ∙ one in
     ap (λ (l : List ℕ). placed (placed l (n + 12 + 4) body) (n + 12 + 4 + 2 * length (p .samples)) loops)
-    (placed-four (placed (placed d 0 name) n key) (n + 12) (length (p .samples)) (omega arith))
+    (number-placed (placed (placed d 0 name) n key) (n + 12) 4 (length (p .samples)) (omega arith) (omega arith))
     ∙ placed-five d name key (digits 256 4 (length (p .samples))) body loops n (n + 12) (n + 12 + 4) (n + 12 + 4 + 2 * length (p .samples))
     (omega arith) (omega arith) (omega arith) (omega arith) (omega arith)
 

@@ -17,6 +17,7 @@ use Rattle.trivium.specs.Calls.{skipping, enciphering}
 use Rattle.trivium.specs.Keystream.{keystream}
 use Rattle.trivium.specs.Record.{state}
 use Rattle.trivium.specs.declared.Enciphered.{Enciphered}
+use Rattle.trivium.proofs.Bytes.{length-run}
 use Rattle.trivium.proofs.Theorems.{enciphers}
 use Rattle.opener.proofs.read_rest.Statement.{statement}
 use Rattle.opener.proofs.read_rest.Tie as tie
@@ -36,10 +37,6 @@ words-placed run output place size long room =
     ap (put place output) (reads-words run (part place output) fits)
     ∙ placed-part output place (wordsOf run) (omega arith)
 
-size-kept : (k : Keystream) (body : List ℕ) (at size : ℕ) → at + size ≤ length body → length (enciphered k (take size (drop at body))) ≡ size
-size-kept k body at size h =
-    length-enciphered k (take size (drop at body)) ∙ length-take-le size (drop at body) (simp length-drop (omega arith))
-
 -- what the call of encipher left: the registers, and the chunk's front
 deciphered : (c : tie.After-encipher)
     → let p = c .before .before .before .before .before .args in
@@ -49,7 +46,7 @@ deciphered c =
     let p = c .before .before .before .before .before .args in
     let some : List ℕ = take (p .size) (drop (p .at) (p .body .now)) in
     let k : Keystream = keystream (state (p .registers)) in
-    let run : length (enciphered k some) ≡ p .size = size-kept k (p .body .now) (p .at) (p .size) (omega arith) in
+    let run : length (enciphered k some) ≡ p .size = length-run k (p .body .now) (p .at) (p .size) (omega arith) in
     let long : length some ≡ p .size = sym (length-enciphered k some) ∙ run in
     let whole : p .at + p .size - p .at ≡ p .size = omega arith in
     let room : List ℕ = c .before .before .before .blank .result in
@@ -114,7 +111,7 @@ returns c =
     ap (λ (ys : List ℤ). put (p .at / 2) (p .output .now) ys)
     (c .before .read-words .ensures ∙ ap (λ (bytes : List ℕ). wordsRead bytes (part (p .at / 2) (p .output .now))) (deciphered e .1))
     ∙ words-placed (enciphered (keystream (state (p .registers))) (take (p .size) (drop (p .at) (p .body .now)))) (p .output .now) (p .at / 2) (p .size)
-    (size-kept (keystream (state (p .registers))) (p .body .now) (p .at) (p .size) (e .before .before .before .before .before .pre .1))
+    (length-run (keystream (state (p .registers))) (p .body .now) (p .at) (p .size) (e .before .before .before .before .before .pre .1))
     (e .before .before .before .before .before .pre .2)
 
 pub read-rest-spec : {M : Type 1} → statement M

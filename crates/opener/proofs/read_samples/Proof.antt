@@ -5,7 +5,7 @@ use Prim.Native.Nat.{ℕ, _+_, _-_, _*_, _/_, _%_, _≤_}
 use mathlib.Core.List.{List, _++_}
 use native.Mathlib.Omega.{arith}
 use lib.IntN.{ℤ}
-use lib.ListN.{length, take, drop, length-drop}
+use lib.ListN.{length, take, drop}
 use lib.Seq.{length-take-le, take-all, take-add}
 use Rattle.octets.specs.Stream.{Keystream, from, enciphered, placed}
 use Rattle.octets.proofs.Streams.{length-enciphered, enciphered-append, enciphered-nothing, placed-nothing, placed-append}
@@ -14,7 +14,7 @@ use Rattle.samples.proofs.Laws.{words-append, words-nothing, length-words}
 use Rattle.trivium.specs.Keystream.{keystream}
 use Rattle.trivium.specs.Record.{state}
 use Rattle.trivium.specs.Registers.{steps}
-use Rattle.trivium.proofs.Bytes.{keystream-from}
+use Rattle.trivium.proofs.Bytes.{keystream-from, length-run}
 use Rattle.trivium.proofs.Steps.{steps-none, steps-bytes}
 use Rattle.opener.proofs.read_samples.Statement.{statement}
 use Rattle.opener.proofs.read_samples.Tie as tie
@@ -39,7 +39,7 @@ further k body output at size even hb ho =
     let more : List ℕ = enciphered (from at k) (take size (drop at body)) in
     let taken : length (take at body) ≡ at = length-take-le at body (omega arith) in
     let long : length first ≡ at = length-enciphered k (take at body) ∙ taken in
-    let next : length more ≡ size = length-enciphered (from at k) (take size (drop at body)) ∙ length-take-le size (drop at body) (simp length-drop (omega arith)) in
+    let next : length more ≡ size = length-run (from at k) body at size hb in
     let words : length (wordsOf first) ≡ length first / 2 = length-words first in
     let rest : length (wordsOf more) ≡ length more / 2 = length-words more in
     let place : at / 2 ≡ 0 + length (wordsOf first) = omega arith in

@@ -7,13 +7,13 @@ use native.Mathlib.Omega.{arith}
 use borrow.Author.Needs.{needs}
 use lib.Bits.{bitXor}
 use lib.IntN.{ℤ}
-use lib.ListN.{length, take, drop, length-drop}
-use lib.Seq.{take-add, drop-drop, length-take-le}
+use lib.ListN.{length, take, drop}
+use lib.Seq.{take-add, drop-drop}
 use Rattle.octets.specs.Digits.{number, digits}
 use Rattle.octets.specs.Stream.{Keystream, from, enciphered, placed}
 use Rattle.octets.proofs.Streams.{length-enciphered, enciphered-append, placed-append}
 use Rattle.samples.specs.Words.{bytesOfAll}
-use Rattle.samples.proofs.Laws.{length-bytes, bytes-append, bytes-below}
+use Rattle.samples.proofs.Laws.{bytes-append, bytes-below}
 use Rattle.trivium.specs.Calls.{running}
 use Rattle.trivium.specs.Keystream.{bits, keystream}
 use Rattle.trivium.specs.Record.{state}
@@ -22,12 +22,9 @@ use Rattle.trivium.specs.declared.Ran.{Ran}
 use Rattle.trivium.specs.declared.Running.{Running}
 use Rattle.trivium.proofs.Bytes.{keystream-from, run-enciphered}
 use Rattle.trivium.proofs.Steps.{steps-add, ran-word, ran-state}
+use Rattle.sealer.proofs.Sealing.{length-some}
 use Rattle.sealer.proofs.write_chunk.Statement.{statement}
 use Rattle.sealer.proofs.write_chunk.Tie as tie
-
--- so many samples as bytes
-size : (zs : List ℤ) (from n : ℕ) → from + n ≤ length zs → length (bytesOfAll (take n (drop from zs))) ≡ 2 * n
-size zs from n h = length-bytes (take n (drop from zs)) ∙ ap (λ (k : ℕ). 2 * k) (length-take-le n (drop from zs) (simp length-drop (omega arith)))
 
 -- a stride's word and the bytes of four samples, as a word
 sealed : (w : Running) (ran : Ran) (zs : List ℤ) (from word : ℕ) → ran ≡ running w → word ≡ number 256 (bytesOfAll (take 4 (drop from zs))) → from + 4 ≤ length zs
@@ -35,7 +32,7 @@ sealed : (w : Running) (ran : Ran) (zs : List ℤ) (from word : ℕ) → ran ≡
 sealed w ran zs from word e same h =
     let run : List ℕ = bytesOfAll (take 4 (drop from zs)) in
     ap₂ (λ (x y : ℕ). digits 256 8 (bitXor x y)) same (ran-word w ran e)
-    ∙ ap (λ (n : ℕ). digits 256 n (bitXor (number 256 run) (number 2 (bits (8 * n) (state (w .registers)))))) (sym (size zs from 4 h))
+    ∙ ap (λ (n : ℕ). digits 256 n (bitXor (number 256 run) (number 2 (bits (8 * n) (state (w .registers)))))) (sym (length-some zs from 4 h))
     ∙ run-enciphered run (state (w .registers)) (bytes-below (take 4 (drop from zs)))
 
 -- the bytes of four samples, and those of the four behind them
@@ -47,8 +44,8 @@ both s mid zs output left start at hz ho on done =
     let k : Keystream = keystream s in
     let xs : List ℕ = bytesOfAll (take 4 (drop start zs)) in
     let ys : List ℕ = bytesOfAll (take 4 (drop (start + 4) zs)) in
-    let taken : length xs ≡ 8 = size zs start 4 (omega arith) in
-    let more : length ys ≡ 8 = size zs (start + 4) 4 (omega arith) in
+    let taken : length xs ≡ 8 = length-some zs start 4 (omega arith) in
+    let more : length ys ≡ 8 = length-some zs (start + 4) 4 (omega arith) in
     let long : length (enciphered k xs) ≡ 8 = length-enciphered k xs ∙ taken in
     let short : length (enciphered (from 8 k) ys) ≡ 8 = length-enciphered (from 8 k) ys ∙ more in
     ap₂ (λ (d : List ℕ) (l : Keystream). placed d (at + 8) (enciphered l ys)) done (ap keystream on ∙ sym (keystream-from 8 s))
