@@ -89,5 +89,5 @@ fn main() {
         &mut file,
     );
     let length = sealed.length;
-    io::write_all(1, octets::part(&file, 0, length));
+    io::write_all(1, octets::slice(&file, 0, length));
 }

@@ -1,6 +1,3 @@
-pub mod Ciphering
-pub mod Frames
-pub mod Reading
-pub mod Tests
+pub mod FramesRead
 pub mod Theorems
-pub mod Writing
+pub mod FramesWritten

@@ -1,13 +1,9 @@
 -- The four frames of the link: the bytes of each, and what is read back from bytes.
--- Assumes nothing.
-use mathlib.Core.Path.{_≡_}
-use Prim.Native.Nat.{ℕ, _+_, _^_, _<_}
-use mathlib.Core.Bool.{Bool, true, cond, _&&_}
-use mathlib.Core.List.{List, _∷_, _++_}
-use lib.Dec.{leb, eqb}
-use lib.ListN.{length, drop}
-use Rattle.octets.specs.Digits.{number, digits, slice}
-use Rattle.frames.specs.Blocks.{longest}
+use mathlib.Core.{Path._≡_, Bool.Bool, Bool.true, Bool.cond, Bool._&&_, List.List, List.[], List._∷_, List._++_}
+use Prim.Native.Nat.{ℕ, _+_}
+use lib.{Dec.leb, Dec.eqb, ListN.length, ListN.drop}
+use Rattle.octets.specs.{Digits.numberAt, Rows.row, Rows.Fits}
+use Rattle.blocks.specs.Blocks.{longest, whole}
 
 pub data Frame : Type 0 where
   -- session, length of the sound
@@ -19,19 +15,33 @@ pub data Frame : Type 0 where
   -- session
   tooLong : ℕ → Frame
 
--- numbers of four bytes and of two, the most significant first
-abbrev pub four : ℕ → List ℕ
-four x = digits 256 4 x
+-- ---- the paper's table, row by row
 
-abbrev pub two : ℕ → List ℕ
-two x = digits 256 2 x
+-- how many bytes each number of a frame has
+abbrev pub widths : Frame → List ℕ
+widths (opening session sound) = 1 ∷ 4 ∷ 4 ∷ []
+widths (block session k run) = 1 ∷ 4 ∷ 2 ∷ 1 ∷ []
+widths (holds session held) = 1 ∷ 4 ∷ 2 ∷ []
+widths (tooLong session) = 1 ∷ 4 ∷ []
 
--- the paper's table, row by row
+-- the numbers, of which the first says which frame it is
+abbrev pub numbers : Frame → List ℕ
+numbers (opening session sound) = 1 ∷ session ∷ sound ∷ []
+numbers (block session k run) = 2 ∷ session ∷ k ∷ length run ∷ []
+numbers (holds session held) = 3 ∷ session ∷ held ∷ []
+numbers (tooLong session) = 4 ∷ session ∷ []
+
+-- what stands behind them
+abbrev pub behind : Frame → List ℕ
+behind (opening session sound) = []
+behind (block session k run) = run
+behind (holds session held) = []
+behind (tooLong session) = []
+
 unfoldable pub bytes : Frame → List ℕ
-bytes (opening session sound) = 1 ∷ four session ++ four sound
-bytes (block session k run) = 2 ∷ four session ++ two k ++ length run ∷ run
-bytes (holds session held) = 3 ∷ four session ++ two held
-bytes (tooLong session) = 4 ∷ four session
+bytes f = row (widths f) (numbers f) ++ behind f
+
+-- ---- limits
 
 -- 0 is no session yet
 abbrev pub some : ℕ → Bool
@@ -40,44 +50,33 @@ some session = leb 1 session
 -- sessions begin at 1, a sound has at most 32,768 bytes, and a block 1 to 64
 unfoldable pub inLimits : Frame → Bool
 inLimits (opening session sound) = some session && leb sound longest
-inLimits (block session k run) = some session && (leb 1 (length run) && leb (length run) 64)
+inLimits (block session k run) = some session && (leb 1 (length run) && leb (length run) whole)
 inLimits (holds session held) = some session
 inLimits (tooLong session) = some session
+
+-- the frames that can be written and read back: within the limits, and each number fits its bytes in the table
+pub record Good (f : Frame) : Type 0 where
+  pub limits : inLimits f ≡ true
+  pub fits : Fits (widths f) (numbers f)
+
+-- ---- reading
 
 -- what the bytes of a message are: a frame, or none
 pub data Heard : Type 0 where
   it : Frame → Heard
   noFrame : Heard
 
--- the number in n bytes from `at`
-abbrev pub field : List ℕ → ℕ → ℕ → ℕ
-field message at n = number 256 (slice message at n)
+-- the frame, if the message begins with this number, has this length and keeps the limits; or else what other rows say
+abbrev pub kept : List ℕ → ℕ → ℕ → Frame → Heard → Heard
+kept message first size f other =
+    cond (eqb (numberAt message 0 1) first && eqb (length message) size && inLimits f) (it f) other
 
--- whether the message begins with this byte and has exactly this length
-abbrev pub shape : List ℕ → ℕ → ℕ → Bool
-shape message first size = eqb (field message 0 1) first && eqb (length message) size
-
--- the frame with these limits kept, or none
-abbrev pub kept : Frame → Heard
-kept f = cond (inLimits f) (it f) noFrame
-
--- what is read back: the row of the table that the message fits exactly, if its limits are kept
+-- what is read back: the row of the table that the message fits
 unfoldable pub heard : List ℕ → Heard
 heard message =
-    cond (shape message 1 9) (kept (opening (field message 1 4) (field message 5 4)))
-    (cond (shape message 2 (8 + field message 7 1)) (kept (block (field message 1 4) (field message 5 2) (drop 8 message)))
-    (cond (shape message 3 7) (kept (holds (field message 1 4) (field message 5 2)))
-    (cond (shape message 4 5) (kept (tooLong (field message 1 4)))
+    let session = numberAt message 1 4 in
+    kept message 1 9 (opening session (numberAt message 5 4))
+    (kept message 2 (8 + numberAt message 7 1) (block session (numberAt message 5 2) (drop 8 message))
+    (kept message 3 7 (holds session (numberAt message 5 2))
+    (kept message 4 5 (tooLong session)
     noFrame)))
-
--- each number fits the bytes that the table gives it
-abbrev pub Fits : Frame → Type 0
-Fits (opening session sound) = (session < 2 ^ 32) × (sound < 2 ^ 32)
-Fits (block session k run) = (session < 2 ^ 32) × (k < 2 ^ 16)
-Fits (holds session held) = (session < 2 ^ 32) × (held < 2 ^ 16)
-Fits (tooLong session) = session < 2 ^ 32
-
--- the frames that can be written and read back
-pub record Good (f : Frame) : Type 0 where
-  pub limits : inLimits f ≡ true
-  pub fits : Fits f

@@ -1,6 +1,2 @@
-pub mod Blocks
-pub mod Cipher
 pub mod Frames
-pub mod Naming
-pub mod Reading
-pub mod Writing
+pub mod Told

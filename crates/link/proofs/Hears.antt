@@ -1,67 +1,59 @@
--- Hearing at the sender keeps what holds, and an answer off the line is never out of place: a count is at most one above the known, and Too long comes only where the buffer is too short.
--- Assumes nothing.
-use mathlib.Core.Path.{_≡_, refl, ap, _∙_}
-use mathlib.Core.Logic.{_⊎_, inl, inr}
-use Prim.Native.Nat.{ℕ, _+_, _≤_, _<_}
-use mathlib.Core.Bool.{true}
-use mathlib.Core.List.{List, List·Memᴰ}
+-- Hearing at the sender keeps what holds, and an answer off the line is never out of place: a count is at most one
+-- above the known, and Too long comes only where the buffer is too short.
+use mathlib.Core.{Path._≡_, Path.refl, Path.ap, Path._∙_, Logic._≢_, Bool.true, List.List, List.List·Memᴰ}
+use Prim.Native.Nat.{ℕ, _≤_, _<_}
 use native.Mathlib.Omega.{arith}
-use borrow.Author.Tests.{leb-false, ltb-true, ltb-false, eqb-true, eqb-false}
-use lib.Dec.{leb, ltb, eqb}
-use lib.ListN.{length}
-use Rattle.frames.specs.Blocks.{blocks}
-use Rattle.frames.specs.Cipher.{Cipher}
-use Rattle.frames.specs.Frames.{holds, tooLong, bytes, heard}
-use Rattle.sender.specs.Sender.{turned, agreed, refused, knowing, onHolds, onTooLong, onFrame, hearing}
-use Rattle.link.specs.World.{World, afterHear}
-use Rattle.sender.specs.declared.Phase.{Phase}
-use Rattle.sender.specs.declared.Phase.the-variants.{Idle, Opening, Sending, Done, Refused}
-use Rattle.sender.specs.declared.Reason.the-variants.{TooLong}
-use Rattle.sender.specs.declared.SenderAnswer.{SenderAnswer}
-use Rattle.link.specs.Course.{Possible}
-use Rattle.link.proofs.Invariant.{lim, Known, Up, an-opening, a-block, Down, a-count, a-no, Inv, sender-in-rule, known-in, meant, good-holds, good-no}
-use Rattle.frames.proofs.Tests.{by-cond}
+use borrow.Author.Tests.{ltb-true, ltb-false}
+use lib.{Dec.ltb, ListN.length}
+use Rattle.octets.specs.Stream.{Cipher}
+use Rattle.refusals.specs.Numbers.{accepted, noTransfer, otherSession}
+use Rattle.refusals.proofs.{Tests.by-cond, ByTurns.finally, ByTurns.keeps, ByTurns.either, ByTurns.by-turns}
+use Rattle.blocks.specs.Blocks.{blocks}
+use Rattle.frames.specs.Frames.{holds, tooLong, bytes}
+use Rattle.sender.specs.{declared.Phase.Phase, declared.Reason.the-variants.TooLong, declared.Sender.Sender}
+use Rattle.sender.specs.{declared.SenderAnswer.SenderAnswer}
+use Rattle.sender.specs.Sender.{inPhase, refused, agreed, underWay, newCount, knowing, hearing}
+use Rattle.sender.specs.declared.Phase.the-variants.{Sending, Done, Refused}
+use Rattle.link.specs.{Demand3.Possible, Demand3.soundOf, World.World, World.withHeard, World.afterHear}
+use Rattle.link.proofs.Invariant.{lim, Up, an-opening, a-block, Down, a-count, a-no, KnownAs, Inv, known-in}
+use Rattle.link.proofs.Invariant.{sender-in-rule, standing, same-length, by-phase, meant}
 
 -- a higher limit allows what a lower one does
-up-to : {cipher : Cipher} {key pair : List ℕ} {sound : ℕ → List ℕ} {session low high : ℕ} {frame : List ℕ} → low ≤ high
-    → Up cipher key pair sound session low frame → Up cipher key pair sound session high frame
+up-to : {cipher : Cipher} {key pair : List ℕ} {sound : ℕ → List ℕ} {session low high : ℕ} {frame : List ℕ}
+    → low ≤ high → Up cipher key pair sound session low frame → Up cipher key pair sound session high frame
 up-to h (an-opening s some most e) = an-opening s some most e
-up-to h (a-block s k some most b below e) = a-block s k some most b (λ present. let z = below present in omega arith) e
+up-to h (a-block s k some most b below e) =
+    a-block s k some most b (λ present. let z = below present in omega arith) e
 
-module _ {cipher : Cipher} {key pair : List ℕ} {room : ℕ} (w : World) (i : Inv cipher key pair room w) (frame : List ℕ) where
-  abbrev heardWorld : SenderAnswer → World
-  heardWorld a =
-      record {
-        sender = a .sender;
-        receiver = w .receiver;
-        buffer = w .buffer;
-        up = w .up;
-        down = w .down;
-        sound = w .sound;
-      }
-
+module _ {cipher : Cipher} {key pair : List ℕ} {room : ℕ} (w : World) (i : Inv cipher key pair room w)
+    (frame : List ℕ) where
   -- a sender is refused its transfer only by Too long
   abbrev Only : Phase → Type 0
-  Only p = p ≡ Refused TooLong → (w .sender .phase ≡ p) ⊎ ((frame ≡ bytes (tooLong (w .sender .session))) × (room < length (w .sound (w .sender .session))))
+  Only p =
+      w .sender .phase ≢ Refused TooLong → p ≡ Refused TooLong
+      → (frame ≡ bytes (tooLong (w .sender .session))) × (room < length (soundOf w))
 
   abbrev Kept : SenderAnswer → Type 0
-  Kept a = Inv cipher key pair room (heardWorld a) × Possible (a .refusal) × Only (a .sender .phase)
+  Kept a = Inv cipher key pair room (withHeard w a) × Possible (a .refusal) × Only (a .sender .phase)
 
-  unchanged : (number : ℕ) → Possible number → Kept (refused number (w .sender))
-  unchanged number h = (i, h, λ _. inl refl)
+  unchanged : (number : ℕ) → Possible number → Kept (refused (w .sender) number)
+  unchanged number h = (i, h, λ yet e. absurd (yet e))
 
-  abbrev KnownAs : Phase → Type 0
-  KnownAs = Known (w .sender .session) (w .sender .length) (w .receiver .session) (w .receiver .count) room
+  abbrev now : ℕ
+  now = lim (w .sender .length) (w .sender .phase)
 
-  turns : (p : Phase) → KnownAs p → lim (w .sender .length) (w .sender .phase) ≤ lim (w .sender .length) p → Only p → Kept (agreed (turned (w .sender) p))
+  turns : (p : Phase) → KnownAs cipher key pair room w p → now ≤ lim (w .sender .length) p → Only p
+      → Kept (agreed (inPhase (w .sender) p))
   turns p known h only = (
     record {
-      senderNamed = i .senderNamed;
-      receiverNamed = i .receiverNamed;
-      sounds = i .sounds;
+      names = i .names;
       begun = i .begun;
       held = i .held;
-      between = record { ahead = i .between .ahead; limit = λ present. let z = i .between .limit present in omega arith; known = known };
+      between = record {
+        ahead = i .between .ahead;
+        limit = λ present. let z = i .between .limit present in omega arith;
+        known = known;
+      };
       up = λ frame m. up-to h (i .up frame m);
       down = i .down;
     },
@@ -70,81 +62,64 @@ module _ {cipher : Cipher} {key pair : List ℕ} {room : ℕ} (w : World) (i : I
   )
 
   -- so many blocks are held by the receiver, in the present session
-  knows : (c : ℕ) → 1 ≤ w .sender .session → w .receiver .session ≡ w .sender .session → c ≤ w .receiver .count → lim (w .sender .length) (w .sender .phase) ≤ c + 1
-      → lim (w .sender .length) (w .sender .phase) ≤ blocks (w .sender .length) → Kept (agreed (knowing (w .sender) c))
-  knows c some present h low all =
-      by-cond (λ (p : Phase). Kept (agreed (turned (w .sender) p))) (ltb c (blocks (w .sender .length))) _ _
-      (λ e. turns (Sending c) (some, ltb-true _ _ e, present, h) low (λ e. let z : _≡_ {A = ℕ} 0 1 = cc in absurd (omega arith)))
-      (λ e. let full = ltb-false c (blocks (w .sender .length)) e in turns Done (some, present, omega arith) all (λ e. let z : _≡_ {A = ℕ} 0 1 = cc in absurd (omega arith)))
+  knows : (c : ℕ) → 1 ≤ w .sender .session → w .receiver .session ≡ w .sender .session → c ≤ w .receiver .count
+      → now ≤ c → Kept (agreed (knowing (w .sender) c))
+  knows c some present h low =
+      let same = same-length w i present in
+      by-cond (λ (p : Phase). Kept (agreed (inPhase (w .sender) p))) (ltb c (blocks (w .sender .length))) _ _
+      (λ e.
+      turns (Sending c) (some, ltb-true _ _ e, present, h) (omega arith)
+      (λ _ e. let z : _≡_ {A = ℕ} 0 1 = cc in absurd (omega arith)))
+      (λ e.
+      let full = ltb-false c (blocks (w .sender .length)) e in
+      turns Done (some, present, omega arith) (omega arith)
+      (λ _ e. let z : _≡_ {A = ℕ} 0 1 = cc in absurd (omega arith)))
 
-  module _ (s c : ℕ) (taken : s ≤ w .receiver .session) (below : s ≡ w .receiver .session → c ≤ w .receiver .count) where
-    on-count : (p : Phase) → w .sender .phase ≡ p → Kept (onHolds (w .sender) s c p)
-    unfolding onHolds
-    on-count Idle e = unchanged 22 (omega arith)
-    on-count Opening e =
-        let known = known-in w i Opening e in
-        let low : lim (w .sender .length) (w .sender .phase) ≡ 0 = rw e in
-        by-cond Kept (eqb s (w .sender .session)) _ _
-        (λ t.
-        let here = eqb-true s (w .sender .session) t in
-        let present : w .receiver .session ≡ w .sender .session = omega arith in
-        let b = below (omega arith) in
-        let l = i .between .limit present in
-        by-cond Kept (eqb c 0) _ _
-        (λ _. knows 0 known present (omega arith) (omega arith) (omega arith))
-        (λ no. absurd (eqb-false c 0 no (omega arith))))
-        (λ _. unchanged 25 (omega arith))
-    on-count (Sending k) e =
-        let known = known-in w i (Sending k) e in
-        let low : lim (w .sender .length) (w .sender .phase) ≡ k + 1 = rw e in
-        by-cond Kept (eqb s (w .sender .session)) _ _
-        (λ t.
-        let here = eqb-true s (w .sender .session) t in
-        let b = below (omega arith) in
-        let l = i .between .limit (known .2) in
-        by-cond Kept (leb c k) _ _ (λ _. unchanged 0 (omega arith))
-        (λ over.
-        let more = leb-false c k over in
-        by-cond Kept (eqb c (k + 1)) (agreed (knowing (w .sender) (k + 1))) (refused 26 (w .sender))
-        (λ _. knows (k + 1) (known .0) (known .2) (omega arith) (omega arith) (omega arith))
-        (λ no. absurd (eqb-false c (k + 1) no (omega arith)))))
-        (λ _. unchanged 25 (omega arith))
-    on-count Done e = unchanged 22 (omega arith)
-    on-count (Refused why) e = unchanged 22 (omega arith)
+  -- Too long comes while opening alone: blocks are held only where the buffer is long enough
+  not-held : underWay (w .sender .phase) ≡ true → room < length (soundOf w) → newCount (w .sender .phase) ≤ 0
+  not-held u over =
+      by-phase (λ p. newCount p ≤ 0) (w .sender .phase) u (λ _. omega arith)
+      (λ k e.
+      let known = known-in w i (Sending k) e in
+      let same = same-length w i (known .2) in
+      absurd (omega arith))
 
-  module _ (s : ℕ) (short : room < length (w .sound s)) (same : frame ≡ bytes (tooLong s)) where
-    long : eqb s (w .sender .session) ≡ true → room < length (w .sound (w .sender .session))
-    long t = rw (eqb-true s (w .sender .session) t) at short
-
-    on-no : (p : Phase) → w .sender .phase ≡ p → Kept (onTooLong (w .sender) s p)
-    unfolding onTooLong
-    on-no Idle e = unchanged 22 (omega arith)
-    on-no Opening e =
-        let known = known-in w i Opening e in
-        by-cond Kept (eqb s (w .sender .session)) _ _
-        (λ t.
-        let over = long t in
-        turns (Refused TooLong) (known, omega arith) (rw e (omega arith))
-        (λ _. inr (same ∙ ap (λ (n : ℕ). bytes (tooLong n)) (eqb-true s (w .sender .session) t), over)))
-        (λ _. unchanged 25 (omega arith))
-    on-no (Sending k) e =
-        let known = known-in w i (Sending k) e in
-        by-cond Kept (eqb s (w .sender .session)) _ _
-        (λ t.
-        let over = long t in
-        let here = ap (λ (n : ℕ). length (w .sound n)) (known .2) in
-        absurd (omega arith))
-        (λ _. unchanged 25 (omega arith))
-    on-no Done e = unchanged 22 (omega arith)
-    on-no (Refused why) e = unchanged 22 (omega arith)
-
-  on-down : Down (w .sound) (w .sender .session) (w .receiver .session) (w .receiver .count) room frame → Kept (onFrame (w .sender) (heard frame))
-  unfolding onFrame
+  on-down : Down (w .sound) (w .sender .session) (w .receiver .session) (w .receiver .count) room frame
+      → Kept (hearing (w .sender) frame)
+  unfolding hearing
   on-down (a-count s c some taken most below e) =
-      rw (meant (holds s c) frame e (good-holds s c some (omega arith) most)) (on-count s c taken below (w .sender .phase) refl)
+      rw (meant (holds s c) e (omega arith))
+      (by-turns Kept
+      (keeps (sender-in-rule w i) (keeps refl
+      (either (unchanged noTransfer (omega arith)) (λ u.
+      either (unchanged otherSession (omega arith)) (λ own.
+      let b = below (omega arith) in
+      let l = i .between .limit (omega arith) in
+      let stands = standing w i u in
+      keeps (omega arith)
+      (finally
+      (by-cond (λ (s : Sender). Kept (agreed s)) (ltb c (newCount (w .sender .phase))) _ _
+      (λ _. unchanged accepted (omega arith))
+      (λ t.
+      let news = ltb-false c (newCount (w .sender .phase)) t in
+      knows c (omega arith) (omega arith) (omega arith) (omega arith))))))))))
   on-down (a-no s some most short e) =
-      rw (meant (tooLong s) frame e (good-no s some (omega arith))) (on-no s short e (w .sender .phase) refl)
+      rw (meant (tooLong s) e (omega arith))
+      (by-turns Kept
+      (keeps (sender-in-rule w i) (keeps refl
+      (either (unchanged noTransfer (omega arith)) (λ u.
+      either (unchanged otherSession (omega arith)) (λ own.
+      let over : room < length (soundOf w) = rw own at short in
+      let none = not-held u over in
+      let stands = standing w i u in
+      keeps none
+      (finally
+      (turns (Refused TooLong) (omega arith) (omega arith)
+      (λ _ _. (e ∙ ap (λ (n : ℕ). bytes (tooLong n)) own, over))))))))))
 
-  pub hears-kept : List·Memᴰ frame (w .down) → Inv cipher key pair room (afterHear frame w) × Possible (hearing (w .sender) frame .refusal) × Only (hearing (w .sender) frame .sender .phase)
-  unfolding afterHear hearing
-  hears-kept m = rw (sender-in-rule w i) (on-down (i .down frame m))
+  pub hears-kept : List·Memᴰ frame (w .down)
+      → Inv cipher key pair room (afterHear frame w)
+      × Possible (hearing (w .sender) frame .refusal)
+      × Only (hearing (w .sender) frame .sender .phase)
+  unfolding afterHear
+  hears-kept m = on-down (i .down frame m)

@@ -1,4 +1,3 @@
-pub mod Answers
 pub mod Begins
 pub mod Demand3
 pub mod Fronts

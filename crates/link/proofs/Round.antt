@@ -1,142 +1,186 @@
--- One undisturbed round with room goes well and takes one off what is left: the answer is always news.
--- Assumes nothing.
-use mathlib.Core.Path.{_≡_, refl, sym, ap, subst, _∙_}
-use mathlib.Core.Logic.{_⊎_, inl, inr}
-use Prim.Native.Nat.{ℕ, _+_, _-_, _≤_}
+-- One undisturbed round with room goes well and brings news: the frame due is answered with the count that would be
+-- news or, while opening, with Too long.
+use mathlib.Core.Path.{_≡_, refl, sym, ap, ap₂, subst, _∙_}
+use mathlib.Core.Logic.{_≢_, _⊎_, inl, inr}
+use mathlib.Core.Bool.{true}
 use mathlib.Core.List.{List, List·Memᴰ, List·Memᴰ·head}
+use Prim.Native.Nat.{ℕ, _+_, _≤_}
 use native.Mathlib.Omega.{arith}
-use lib.Dec.{ltb}
-use lib.ListN.{length}
-use Rattle.octets.proofs.Streams.{take-placed}
-use Rattle.octets.specs.Outcome.{Outcome}
-use Rattle.frames.specs.Blocks.{blocks}
-use Rattle.frames.specs.Cipher.{Cipher}
-use Rattle.frames.specs.Frames.{Frame, opening, holds, tooLong, bytes}
-use Rattle.receiver.specs.Receiver.{receiving}
-use Rattle.sender.specs.Sender.{turned, agreed, knowing, blockFrame, sending, hearing}
-use Rattle.link.specs.World.{World, more, sentFrame, replyFrame, afterSend, afterReceive, afterHear, onceSent, frameSent, onceAnswered, answerGiven, afterRound, Reach, sends, receives, hears}
-use Rattle.sender.specs.declared.Phase.{Phase}
-use Rattle.sender.specs.declared.Phase.the-variants.{Idle, Opening, Sending, Done, Refused}
-use Rattle.sender.specs.declared.Reason.the-variants.{TooLong}
-use Rattle.sender.specs.declared.Sender.{Sender}
-use Rattle.sender.specs.declared.SenderAnswer.{SenderAnswer}
-use Rattle.sender.specs.declared.Sent.{Sent}
-use Rattle.link.proofs.Answers.{Says, wrote, writes-opening, writes-block, answers-opening, answers-block, hears-first, hears-no, hears-next}
-use Rattle.link.specs.Course.{dueIn, Room, Accepted, Well}
-use Rattle.link.proofs.Invariant.{Inv, known-in}
-use Rattle.link.proofs.Moments.{holds-at}
-use Rattle.frames.proofs.Tests.{by-cond}
+use borrow.Author.Tests.{eqb-true, eqb-false, le-ltb}
+use lib.{Dec.ltb, Dec.eqb, ListN.length}
+use Rattle.octets.specs.{Buffers.placed, Stream.Cipher}
+use Rattle.octets.proofs.Buffers.{take-placed}
+use Rattle.refusals.specs.{Numbers.accepted, Outcome.outcome, Rules.AllRight}
+use Rattle.refusals.proofs.{Settled.done-if, Tests.by-cond}
+use Rattle.blocks.specs.Blocks.{blocks, size}
+use Rattle.blocks.proofs.Covering.{length-run}
+use Rattle.frames.specs.Frames.{Frame, opening, holds, tooLong, bytes, it}
+use Rattle.receiver.specs.Receiver.{answerRoom, receiveFaults, Effect, onFrame, Received, receiving}
+use Rattle.sender.specs.{declared.Phase.Phase, declared.Reason.the-variants.TooLong, declared.Sender.Sender}
+use Rattle.sender.specs.{declared.SenderAnswer.SenderAnswer}
+use Rattle.sender.specs.Sender.{inPhase, agreed, underWay, newCount, blockFrame, dueIn, sending, hearFaults, informed}
+use Rattle.sender.specs.Sender.{hearing}
+use Rattle.sender.specs.declared.Phase.the-variants.{Opening, Sending, Done, Refused}
+use Rattle.link.specs.Demand3.{soundOf, sendCall, receiveCall, hearCall, afterRound, Room, Well}
+use Rattle.link.specs.World.{World, more, sentFrame, replyFrame, afterSend, afterReceive, afterHear, Reach, sends}
+use Rattle.link.specs.World.{receives, hears}
+use Rattle.link.proofs.Invariant.{Inv, sender-in-rule, receiver-in-rule, known-in, same-length, standing}
+use Rattle.link.proofs.Invariant.{by-phase, Limits, meant, length-holds, length-no}
 
--- how many rounds are left
-abbrev pub left : ℕ → Phase → ℕ
-left length Idle = 0
-left length Opening = blocks length + 1
-left length (Sending known) = blocks length - known
-left length Done = 0
-left length (Refused why) = 0
+-- a transfer was begun: it is under way and so many blocks at least would be news, or it is over
+abbrev pub Stands : ℕ → Phase → Type 0
+Stands news p = ((underWay p ≡ true) × (news ≤ newCount p)) ⊎ ((p ≡ Done) ⊎ (p ≡ Refused TooLong))
 
--- a transfer was begun
-abbrev pub Live : Phase → Type 0
-Live Idle = ⊥
-Live Opening = Unit
-Live (Sending known) = Unit
-Live Done = Unit
-Live (Refused why) = Unit
-
--- the same transfer with fewer rounds left
-pub record Onward (s next : Sender) : Type 0 where
-  pub sameSession : next .session ≡ s .session
-  pub live : Live (next .phase)
-  pub fewer : left (next .length) (next .phase) + 1 ≤ left (s .length) (s .phase)
-
-onward-to : (s : Sender) (c : ℕ) → blocks (s .length) - c + 1 ≤ left (s .length) (s .phase) → Onward s (knowing s c)
-onward-to s c h =
-    by-cond (λ (p : Phase). Onward s (turned s p)) (ltb c (blocks (s .length))) _ _
-    (λ _. record { sameSession = refl; live = tt; fewer = h })
-    (λ _. record { sameSession = refl; live = tt; fewer = omega arith })
+-- the same transfer, with a block more
+abbrev pub Onward : Sender → Sender → Type 0
+Onward s next = (next .session ≡ s .session) × Stands (newCount (s .phase) + 1) (next .phase)
 
 -- the frame of a call that isn't refused is on the line
-on-line : (number : ℕ) (frame : List ℕ) (line : List (List ℕ)) → number ≡ 0 → List·Memᴰ frame (more number frame line)
+on-line : (number : ℕ) (frame : List ℕ) (line : List (List ℕ)) → number ≡ accepted
+    → List·Memᴰ frame (more number frame line)
 on-line number frame line e = rw e (List·Memᴰ·head refl)
 
-module _ {cipher : Cipher} {key pair buffer : List ℕ} {w : World} (r : Reach cipher key pair buffer w) (frame reply : List ℕ) where
-  abbrev sound : List ℕ
-  sound = w .sound (w .sender .session)
+module _ {cipher : Cipher} {key pair : List ℕ} {room : ℕ} (w : World) (i : Inv cipher key pair room w)
+    (u : underWay (w .sender .phase) ≡ true) where
+  abbrev session : ℕ
+  session = w .sender .session
 
-  -- a round from its three calls: this frame is written, this answer is given, and this is what the sender makes of it
-  module _ (run : List ℕ) (fits : length run ≤ length frame) (writes : sending cipher (w .sender) sound frame ≡ wrote (w .sender) frame run)
-      (f : Frame) (says : Says f (receiving (w .receiver) (w .buffer) reply cipher run)) (next : Sender) (hearsIt : hearing (w .sender) (bytes f) ≡ agreed next) where
-    up-is : frameSent cipher frame w ≡ run
-    up-is = ap sentFrame writes ∙ take-placed frame run fits
+  abbrev news : ℕ
+  news = newCount (w .sender .phase)
 
-    accepts : receiving (w .receiver) (w .buffer) reply cipher (frameSent cipher frame w) .answer .refusal ≡ 0
-    accepts = ap (λ (u : List ℕ). receiving (w .receiver) (w .buffer) reply cipher u .answer .refusal) up-is ∙ says .0
+  abbrev dueNow : Phase → List ℕ
+  dueNow = dueIn cipher (w .sender) (soundOf w)
 
-    down-is : replyFrame (receiving (w .receiver) (w .buffer) reply cipher (frameSent cipher frame w)) ≡ bytes f
-    down-is = ap (λ (u : List ℕ). replyFrame (receiving (w .receiver) (w .buffer) reply cipher u)) up-is ∙ says .1
+  -- ---- the answer
 
-    sender-is : sending cipher (w .sender) sound frame .answer .sender ≡ w .sender
-    sender-is = ap (λ (o : Outcome Sent ℕ). o .answer .sender) writes
+  abbrev News : Frame → Type 0
+  News f = (f ≡ holds session news) ⊎ ((f ≡ tooLong session) × (news ≡ 0))
 
-    heard-is : hearing (onceAnswered cipher frame reply w .sender) (answerGiven cipher frame reply w) ≡ agreed next
-    unfolding afterSend afterReceive
-    heard-is = (λ j. hearing (sender-is j) (down-is j)) ∙ hearsIt
+  small : (f : Frame) → News f → length (bytes f) ≤ answerRoom
+  small f (inl e) = rw e (omega (arith, length-holds session news))
+  small f (inr (e, _)) = rw e (omega (arith, length-no session))
 
-    calls-accepted : Accepted cipher w frame reply
-    unfolding afterSend afterReceive
-    calls-accepted = record { sent = ap (λ (o : Outcome Sent ℕ). o .answer .refusal) writes; received = accepts; heard = ap (λ (a : SenderAnswer). a .refusal) heard-is }
+  -- this frame is the answer
+  abbrev Says : Frame → Received → Type 0
+  Says f o = (o .answer .refusal ≡ accepted) × (replyFrame o ≡ bytes f)
 
-    goes-well : Well cipher key pair buffer w frame reply × (afterRound cipher frame reply w .sender ≡ next)
-    unfolding afterSend afterReceive afterHear afterRound
-    goes-well =
-        let calls = calls-accepted in
-        let first : Reach cipher key pair buffer (onceSent cipher frame w) = sends r sound frame (λ _. refl) in
-        let second : Reach cipher key pair buffer (onceAnswered cipher frame reply w) = receives first (frameSent cipher frame w) reply (on-line _ _ (w .up) (calls .sent)) in (
-          record { calls = calls; first = first; second = second; third = hears second (answerGiven cipher frame reply w) (on-line _ _ (w .down) (calls .received)) },
-          ap (λ (a : SenderAnswer). a .sender) heard-is,
-        )
+  module _ (reply : List ℕ) (seven : answerRoom ≤ length reply) where
+    abbrev Answered : List ℕ → Type 0
+    Answered run = (f : Frame) × News f × Says f (receiving cipher (w .receiver) (w .buffer) reply run)
 
-  -- ---- one round with room, in either phase of a transfer under way
+    answers : (g : Frame) → Limits g
+        → AllRight (receiveFaults (w .receiver) (length (w .buffer)) (length reply) (it g))
+        → News (onFrame cipher (w .receiver) (w .buffer) (it g) .answer) → Answered (bytes g)
+    unfolding receiving
+    answers g limits right new =
+        let f : Frame = onFrame cipher (w .receiver) (w .buffer) (it g) .answer in
+        let fits : length (bytes f) ≤ length reply = omega (arith, small f new) in
+        let itself = meant g refl limits in
+        (f, new, rw itself (subst (Says f) (done-if _ _ _ right) (refl, take-placed reply (bytes f) fits)))
 
-  abbrev Made : Type 0
-  Made = Well cipher key pair buffer w frame reply × Onward (w .sender) (afterRound cipher frame reply w .sender)
+    abbrev NewsOf : Effect → Type 0
+    NewsOf e = News (e .answer)
 
-  made : {next : Sender} → Well cipher key pair buffer w frame reply × (afterRound cipher frame reply w .sender ≡ next) → Onward (w .sender) next → Made
-  made (well, is) on = (well, subst (Onward (w .sender)) (sym is) on)
-
-  module _ (room : Room cipher w frame reply) where
-    pub round-opening : w .sender .phase ≡ Opening → Made
+    on-opening : w .sender .phase ≡ Opening → Answered (dueNow Opening)
     unfolding dueIn
-    round-opening e = go (answers-opening w i reply (room .forAnswer) e)
-      where
-        i : Inv cipher key pair (length buffer) w
-        i = holds-at r
+    on-opening e =
+        let long : ℕ = w .sender .length in
+        let short = i .begun .short session in
+        let stands = standing w i u in
+        let none : news ≡ 0 = rw e in
+        answers (opening session long) (omega arith)
+        (receiver-in-rule w i, (refl, (i .between .ahead, (seven, tt))))
+        (by-cond NewsOf (eqb session (w .receiver .session)) _ _
+        (λ t.
+        let own = sym (eqb-true session (w .receiver .session) t) in
+        let few = i .between .limit own in
+        let count : w .receiver .count ≡ news = omega arith in
+        inl (ap₂ holds own count))
+        (λ _. by-cond NewsOf (ltb (length (w .buffer)) long) _ _ (λ _. inr (refl, none))
+        (λ _. inl (ap (holds session) (sym none)))))
 
-        run : List ℕ
-        run = bytes (opening (w .sender .session) (w .sender .length))
-
-        fits : length run ≤ length frame
-        fits = rw e at (room .forFrame)
-
-        whole : blocks (w .sender .length) + 1 ≡ left (w .sender .length) (w .sender .phase)
-        whole = rw e
-
-        go : Says (holds (w .sender .session) 0) (receiving (w .receiver) (w .buffer) reply cipher run)
-            ⊎ Says (tooLong (w .sender .session)) (receiving (w .receiver) (w .buffer) reply cipher run) → Made
-        go (inl said) =
-            made (goes-well run fits (writes-opening w i frame e fits) (holds (w .sender .session) 0) said (knowing (w .sender) 0) (hears-first w i e))
-            (onward-to (w .sender) 0 (omega (arith, whole)))
-        go (inr said) =
-            made (goes-well run fits (writes-opening w i frame e fits) (tooLong (w .sender .session)) said (turned (w .sender) (Refused TooLong)) (hears-no w i e))
-            (record { sameSession = refl; live = tt; fewer = omega (arith, whole) })
-
-    pub round-sending : (k : ℕ) → w .sender .phase ≡ Sending k → Made
+    on-block : (k : ℕ) → w .sender .phase ≡ Sending k → Answered (dueNow (Sending k))
     unfolding dueIn
-    round-sending k e =
-        let i = holds-at r in
-        let run : List ℕ = bytes (blockFrame cipher (w .sender) sound k) in
-        let fits : length run ≤ length frame = rw e at (room .forFrame) in
-        let whole : blocks (w .sender .length) - k ≡ left (w .sender .length) (w .sender .phase) = rw e in
+    on-block k e =
+        let s : Sender = w .sender in
+        let short = i .begun .short session in
         let known = known-in w i (Sending k) e in
-        made (goes-well run fits (writes-block w i frame k e fits) (holds (w .sender .session) (k + 1)) (answers-block w i reply (room .forAnswer) k e) (knowing (w .sender) (k + 1)) (hears-next w i k e))
-        (onward-to (w .sender) (k + 1) (omega arith))
+        let stands = standing w i u in
+        let one : news ≡ k + 1 = rw e in
+        let few = i .between .limit (known .2) in
+        let same = same-length w i (known .2) in
+        let run = length-run cipher (s .key) (s .pair) session k (soundOf w) in
+        let long = ap (λ (n : ℕ). size n k) (i .begun .same ∙ sym same) in
+        answers (blockFrame cipher s (soundOf w) k) (omega arith)
+        (receiver-in-rule w i, (refl, (sym (known .2), (omega arith, (run ∙ long, (omega arith, (seven, tt)))))))
+        (by-cond NewsOf (eqb k (w .receiver .count)) _ _ (λ _. inl (ap₂ holds (known .2) (sym one)))
+        (λ t.
+        let other : k ≢ w .receiver .count = eqb-false k (w .receiver .count) t in
+        let count : w .receiver .count ≡ news = omega arith in
+        inl (ap₂ holds (known .2) count)))
+
+    answered : Answered (dueNow (w .sender .phase))
+    answered = by-phase (λ p. Answered (dueNow p)) (w .sender .phase) u on-opening on-block
+
+  -- ---- and what the sender makes of it
+
+  abbrev Heeded : Frame → Type 0
+  Heeded f = (next : Sender) × (hearing (w .sender) (bytes f) ≡ agreed next) × Onward (w .sender) next
+
+  heeds : (f : Frame) → Limits f → AllRight (hearFaults (w .sender) (it f))
+      → Onward (w .sender) (informed (w .sender) (it f)) → Heeded f
+  unfolding hearing
+  heeds f limits right on = (informed (w .sender) (it f), rw (meant f refl limits) (sym (done-if _ _ _ right)), on)
+
+  onward : Onward (w .sender) (informed (w .sender) (it (holds session news)))
+  onward =
+      rw (le-ltb news news (omega arith))
+      (by-cond (λ (p : Phase). Onward (w .sender) (inPhase (w .sender) p)) (ltb news (blocks (w .sender .length))) _ _
+      (λ _. (refl, inl (refl, omega arith))) (λ _. (refl, inr (inl refl))))
+
+  heeds-news : (f : Frame) → News f → Heeded f
+  heeds-news f (inl e) =
+      let short = i .begun .short session in
+      let stands = standing w i u in
+      subst Heeded (sym e)
+      (heeds (holds session news) (omega arith) (sender-in-rule w i, (refl, (u, (refl, (omega arith, tt))))) onward)
+  heeds-news f (inr (e, none)) =
+      let stands = standing w i u in
+      subst Heeded (sym e)
+      (heeds (tooLong session) (omega arith) (sender-in-rule w i, (refl, (u, (refl, (omega arith, tt)))))
+      (refl, inr (inr refl)))
+
+  -- ---- the round
+
+  module _ {buffer : List ℕ} (r : Reach cipher key pair buffer w) (frame reply : List ℕ)
+      (lent : Room cipher w frame reply) where
+    abbrev due : List ℕ
+    due = dueNow (w .sender .phase)
+
+    writes : sendCall cipher w frame reply
+        ≡ outcome (record { refusal = accepted; length = length due; sender = w .sender }) (placed frame 0 due)
+    unfolding sending
+    writes = sym (done-if _ _ _ (sender-in-rule w i, (u, (i .begun .same, (lent .forFrame, tt)))))
+
+    calls : (f : Frame) (next : Sender) → Says f (receiving cipher (w .receiver) (w .buffer) reply due)
+        → hearing (w .sender) (bytes f) ≡ agreed next
+        → (sendCall cipher w frame reply .answer .refusal ≡ accepted)
+        × (receiveCall cipher w frame reply .answer .refusal ≡ accepted)
+        × (hearCall cipher w frame reply ≡ agreed next)
+    unfolding afterSend afterReceive
+    calls f next said so =
+        rw (writes, take-placed frame due (lent .forFrame)) (refl, said .0, ap (hearing (w .sender)) (said .1) ∙ so)
+
+    pub round : Well cipher w frame reply key pair buffer × Onward (w .sender) (afterRound cipher w frame reply .sender)
+    unfolding afterRound afterHear afterReceive afterSend
+    round =
+        let answer = answered reply (omega arith) in
+        let next = heeds-news (answer .0) (answer .1) in
+        let done = calls (answer .0) (next .0) (answer .2) (next .1) in
+        let first = sends r (soundOf w) frame (λ _. refl) in
+        let second = receives first (sentFrame (sendCall cipher w frame reply)) reply (on-line _ _ (w .up) (done .0)) in
+        let third = hears second (replyFrame (receiveCall cipher w frame reply)) (on-line _ _ (w .down) (done .1)) in
+        let heard = ap (λ (a : SenderAnswer). a .refusal) (done .2) in (
+          record { sent = done .0; received = done .1; heard = heard; first = first; second = second; third = third },
+          subst (Onward (w .sender)) (sym (ap (λ (a : SenderAnswer). a .sender) (done .2))) (next .2),
+        )

@@ -1,3 +1,2 @@
-pub mod Course
 pub mod Demand3
 pub mod World

@@ -1,22 +1,15 @@
 -- The world of demand 3, on one page: one sender and one receiver, the line between them, and all that can happen.
--- Assumes nothing.
-use mathlib.Core.Path.{_≡_}
-use Prim.Native.Nat.{ℕ, _*_, _-_, _≤_, _<_, min}
-use mathlib.Core.Bool.{Bool, cond}
-use mathlib.Core.List.{List, [], _∷_, List·Memᴰ}
-use lib.Dec.{eqb}
-use lib.ListN.{length, take}
-use Rattle.octets.specs.Outcome.{Outcome}
-use Rattle.octets.specs.Refusals.{accepted}
-use Rattle.frames.specs.Blocks.{blocks}
-use Rattle.frames.specs.Cipher.{Cipher}
-use Rattle.receiver.specs.Receiver.{Received, makingReceiver, receiving}
+use mathlib.Core.{Path._≡_, Logic._⊎_, Bool.cond, Bool._&&_, List.List, List.[], List._∷_, List.List·Memᴰ}
+use Prim.Native.Nat.{ℕ, _-_, min}
+use lib.{Dec.eqb, ListN.length, ListN.take}
+use Rattle.octets.specs.Stream.{Cipher}
+use Rattle.refusals.specs.{Numbers.accepted, Outcome.Outcome}
+use Rattle.blocks.specs.Blocks.{blocks, place}
+use Rattle.names.specs.Naming.{keyBytes, pairBytes}
+use Rattle.receiver.specs.{Receiver.Received, Receiver.makingReceiver, Receiver.receiving, declared.Receiver.Receiver}
+use Rattle.sender.specs.{declared.Phase.the-variants.Opening, declared.Phase.the-variants.Sending}
+use Rattle.sender.specs.{declared.Sender.Sender, declared.SenderAnswer.SenderAnswer, declared.Sent.Sent}
 use Rattle.sender.specs.Sender.{makingSender, beginning, sending, hearing}
-use Rattle.sender.specs.declared.Phase.{Phase}
-use Rattle.sender.specs.declared.Phase.the-variants.{Idle, Opening, Sending, Done, Refused}
-use Rattle.receiver.specs.declared.Receiver.{Receiver}
-use Rattle.sender.specs.declared.Sender.{Sender}
-use Rattle.sender.specs.declared.Sent.{Sent}
 
 pub record World : Type 0 where
   pub sender : Sender
@@ -29,121 +22,85 @@ pub record World : Type 0 where
   -- the sound begun under each session number
   pub sound : ℕ → List ℕ
 
+abbrev pub world : Sender → Receiver → List ℕ → List (List ℕ) → List (List ℕ) → (ℕ → List ℕ) → World
+world sender receiver buffer up down sound =
+    record { sender = sender; receiver = receiver; buffer = buffer; up = up; down = down; sound = sound }
+
+-- both ends are made fresh, and nothing is on the line
+unfoldable pub fresh : List ℕ → List ℕ → List ℕ → World
+fresh key pair buffer =
+    world (makingSender key pair .sender) (makingReceiver key pair .receiver) buffer [] [] (λ session. [])
+
+-- ---- the moment after a call, by what the call came to
+
 -- a call that isn't refused puts the frame that it wrote on the line
 abbrev pub more : ℕ → List ℕ → List (List ℕ) → List (List ℕ)
 more refusal frame line = cond (eqb refusal accepted) (frame ∷ line) line
 
--- the frames that two calls wrote
 abbrev pub sentFrame : Outcome Sent ℕ → List ℕ
 sentFrame o = take (o .answer .length) (o .buffer)
 
 abbrev pub replyFrame : Received → List ℕ
 replyFrame o = take (o .answer .length) (o .reply)
 
--- both ends are made fresh, and nothing is on the line
-unfoldable pub fresh : List ℕ → List ℕ → List ℕ → World
-fresh key pair buffer =
-    record {
-      sender = makingSender key pair .sender;
-      receiver = makingReceiver key pair .receiver;
-      buffer = buffer;
-      up = [];
-      down = [];
-      sound = λ session. [];
-    }
+-- the sender's calls leave the receiver, its buffer and its frames alone
+abbrev pub bySender : World → Sender → List (List ℕ) → (ℕ → List ℕ) → World
+bySender w sender up sound = world sender (w .receiver) (w .buffer) up (w .down) sound
+
+abbrev pub withBegun : World → List ℕ → SenderAnswer → World
+withBegun w new a =
+    bySender w (a .sender) (w .up)
+    (λ session. cond (eqb (a .refusal) accepted && eqb session (a .sender .session)) new (w .sound session))
+
+abbrev pub withSent : World → Outcome Sent ℕ → World
+withSent w o = bySender w (o .answer .sender) (more (o .answer .refusal) (sentFrame o) (w .up)) (w .sound)
+
+abbrev pub withHeard : World → SenderAnswer → World
+withHeard w a = bySender w (a .sender) (w .up) (w .sound)
+
+abbrev pub withReceived : World → Received → World
+withReceived w o =
+    world (w .sender) (o .answer .receiver) (o .sound) (w .up) (more (o .answer .refusal) (replyFrame o) (w .down))
+    (w .sound)
+
+-- ---- all that can happen
 
 -- a sound is begun, over whatever was under way
 unfoldable pub afterBegin : List ℕ → World → World
-afterBegin sound w =
-    let begun = beginning (w .sender) sound in
-    record {
-      sender = begun .sender;
-      receiver = w .receiver;
-      buffer = w .buffer;
-      up = w .up;
-      down = w .down;
-      sound = λ session. cond (eqb (begun .refusal) accepted) (cond (eqb session (begun .sender .session)) sound (w .sound session)) (w .sound session);
-    }
+afterBegin sound w = withBegun w sound (beginning (w .sender) sound)
 
-module _ (cipher : Cipher) where
-  -- the sender is asked to send, with a sound and room for the frame lent
-  unfoldable pub afterSend : List ℕ → List ℕ → World → World
-  afterSend sound frame w =
-      let sent = sending cipher (w .sender) sound frame in
-      record {
-        sender = sent .answer .sender;
-        receiver = w .receiver;
-        buffer = w .buffer;
-        up = more (sent .answer .refusal) (sentFrame sent) (w .up);
-        down = w .down;
-        sound = w .sound;
-      }
+-- the sender is asked to send, with a sound and room for the frame lent
+unfoldable pub afterSend : Cipher → List ℕ → List ℕ → World → World
+afterSend cipher sound frame w = withSent w (sending cipher (w .sender) sound frame)
 
-  -- the receiver hears a frame, with room for its answer lent
-  unfoldable pub afterReceive : List ℕ → List ℕ → World → World
-  afterReceive frame reply w =
-      let got = receiving (w .receiver) (w .buffer) reply cipher frame in
-      record {
-        sender = w .sender;
-        receiver = got .answer .receiver;
-        buffer = got .sound;
-        up = w .up;
-        down = more (got .answer .refusal) (replyFrame got) (w .down);
-        sound = w .sound;
-      }
+-- the receiver hears a frame, with room for its answer lent
+unfoldable pub afterReceive : Cipher → List ℕ → List ℕ → World → World
+afterReceive cipher frame reply w = withReceived w (receiving cipher (w .receiver) (w .buffer) reply frame)
 
 -- the sender hears a frame
 unfoldable pub afterHear : List ℕ → World → World
-afterHear frame w =
-    record {
-      sender = hearing (w .sender) frame .sender;
-      receiver = w .receiver;
-      buffer = w .buffer;
-      up = w .up;
-      down = w .down;
-      sound = w .sound;
-    }
+afterHear frame w = withHeard w (hearing (w .sender) frame)
 
--- The moments that can come about. The line delivers any frame that was ever put on it, at any time, any number of times or never.
--- A lent sound that has the length begun is the sound begun: it is not altered while it is sent. Any other is refused.
+-- The moments that can come about. The line delivers any frame that was ever put on it, at any time, any number of
+-- times or never. A lent sound of the length begun is the sound begun, not altered while sent; others are refused.
 pub data Reach (cipher : Cipher) (key pair buffer : List ℕ) : World → Type 0 where
-  start : length key ≡ 10 → length pair ≡ 6 → Reach cipher key pair buffer (fresh key pair buffer)
-  begins : {w : World} → Reach cipher key pair buffer w → (sound : List ℕ) → Reach cipher key pair buffer (afterBegin sound w)
-  sends : {w : World} → Reach cipher key pair buffer w → (sound frame : List ℕ) → (length sound ≡ w .sender .length → sound ≡ w .sound (w .sender .session))
+  start : length key ≡ keyBytes → length pair ≡ pairBytes → Reach cipher key pair buffer (fresh key pair buffer)
+  begins : {w : World} → Reach cipher key pair buffer w → (sound : List ℕ)
+      → Reach cipher key pair buffer (afterBegin sound w)
+  sends : {w : World} → Reach cipher key pair buffer w → (sound frame : List ℕ)
+      → (length sound ≡ w .sender .length → sound ≡ w .sound (w .sender .session))
       → Reach cipher key pair buffer (afterSend cipher sound frame w)
-  receives : {w : World} → Reach cipher key pair buffer w → (frame reply : List ℕ) → List·Memᴰ frame (w .up) → Reach cipher key pair buffer (afterReceive cipher frame reply w)
-  hears : {w : World} → Reach cipher key pair buffer w → (frame : List ℕ) → List·Memᴰ frame (w .down) → Reach cipher key pair buffer (afterHear frame w)
+  receives : {w : World} → Reach cipher key pair buffer w → (frame reply : List ℕ) → List·Memᴰ frame (w .up)
+      → Reach cipher key pair buffer (afterReceive cipher frame reply w)
+  hears : {w : World} → Reach cipher key pair buffer w → (frame : List ℕ) → List·Memᴰ frame (w .down)
+      → Reach cipher key pair buffer (afterHear frame w)
 
--- how many bytes the blocks counted as held are
-abbrev pub heldBytes : Receiver → ℕ
-heldBytes r = min (64 * r .count) (r .length)
+-- how many bytes of a sound of this length the blocks counted as held are
+abbrev pub heldBytes : ℕ → ℕ → ℕ
+heldBytes length count = min (place count) length
 
 -- a transfer is under way, with n blocks not yet known to be held
-unfoldable pub UnderWay : Sender → ℕ → Type 0
-UnderWay s n = Pending (s .phase)
-  where
-    Pending : Phase → Type 0
-    Pending Idle = ⊥
-    Pending Opening = n ≡ blocks (s .length)
-    Pending (Sending known) = n ≡ blocks (s .length) - known
-    Pending Done = ⊥
-    Pending (Refused why) = ⊥
-
--- An undisturbed round, with rooms lent for the frame and for the answer: the sender sends once, the frame is heard, the answer is heard.
-module _ (cipher : Cipher) where
-  -- the frame sent, and the moment after it
-  abbrev pub frameSent : List ℕ → World → List ℕ
-  frameSent frame w = sentFrame (sending cipher (w .sender) (w .sound (w .sender .session)) frame)
-
-  abbrev pub onceSent : List ℕ → World → World
-  onceSent frame w = afterSend cipher (w .sound (w .sender .session)) frame w
-
-  -- the answer given, and the moment after it
-  abbrev pub answerGiven : List ℕ → List ℕ → World → List ℕ
-  answerGiven frame reply w = replyFrame (receiving (onceSent frame w .receiver) (onceSent frame w .buffer) reply cipher (frameSent frame w))
-
-  abbrev pub onceAnswered : List ℕ → List ℕ → World → World
-  onceAnswered frame reply w = afterReceive cipher (frameSent frame w) reply (onceSent frame w)
-
-  unfoldable pub afterRound : List ℕ → List ℕ → World → World
-  afterRound frame reply w = afterHear (answerGiven frame reply w) (onceAnswered frame reply w)
+abbrev pub UnderWay : Sender → ℕ → Type 0
+UnderWay s n =
+    ((s .phase ≡ Opening) × (n ≡ blocks (s .length)))
+    ⊎ ((known : ℕ) × (s .phase ≡ Sending known) × (n ≡ blocks (s .length) - known))

@@ -1,1 +1,1 @@
-// Both ends of the sound link and the line between them: demand 3, see specs/World.antt, specs/Course.antt and specs/Demand3.antt.
+// Both ends of the sound link and the line between them: demand 3, see specs/World.antt and specs/Demand3.antt.

@@ -1,14 +1,25 @@
 -- Exclusive or and conjunction, bit by bit: each law follows from the library's law on the two lowest bits.
--- Assumes nothing.
 use mathlib.Core.Path.{_≡_, ap, _∙_}
-use Prim.Native.Nat.{ℕ, _+_, _/_, _%_}
+use Prim.Native.Nat.{ℕ, zero, suc, _+_, _*_, _/_, _%_, _<_, min}
 use native.Mathlib.Omega.{arith}
 use lib.Arith.{bin-ind}
-use lib.Bits.{bitXor, xor-add-and, xor-zero-l, xor-self, xor-shr}
+use lib.Bits.{bitXor, bitAnd, and-step, xor-add-and, xor-zero-l, xor-self, xor-shr}
 
 -- the lowest bit of an exclusive or is the sum modulo 2
 pub xor-low : (x y : ℕ) → bitXor x y % 2 ≡ (x % 2 + y % 2) % 2
 xor-low x y = omega (arith, xor-add-and x y)
+
+-- the lowest bit of a conjunction is the product
+pub and-low : (x y : ℕ) → bitAnd x y % 2 ≡ (x % 2) * (y % 2)
+and-low x y =
+    let step : bitAnd x y ≡ bitAnd (x / 2) (y / 2) * 2 + min (x % 2) (y % 2) = and-step x y in
+    let low : bitAnd x y % 2 ≡ min (x % 2) (y % 2) = omega arith in
+    low ∙ product (x % 2) (y % 2) (omega arith) (omega arith)
+  where
+    product : (p q : ℕ) → p < 2 → q < 2 → min p q ≡ p * q
+    product zero q hp hq = omega arith
+    product (suc zero) q hp hq = omega arith
+    product (suc (suc p)) q hp hq = absurd (omega arith)
 
 -- a number is its half and its lowest bit
 halves : (x y : ℕ) → x / 2 ≡ y / 2 → x % 2 ≡ y % 2 → x ≡ y

@@ -1,6 +1,7 @@
 pub mod Bits
+pub mod Buffers
 pub mod Numbers
-pub mod Runs
+pub mod Rows
 pub mod Shifts
+pub mod Slices
 pub mod Streams
-pub mod Theorems

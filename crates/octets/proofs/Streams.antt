@@ -1,20 +1,18 @@
 -- The laws of bytes under any keystream. Each goes along the bytes, and moves the keystream on by one at each.
--- Assumes nothing.
-use mathlib.Core.Path.{_≡_, refl, sym, ap, ap₂, _∙_}
-use Prim.Native.Nat.{ℕ, zero, suc, _+_, _*_, _-_, _/_, _%_, _^_, _<_, _≤_}
-use mathlib.Core.List.{List, [], _∷_, _++_, append-assoc, append-nil}
-use native.Mathlib.Nat.{zero-add, add-assoc, pow-suc}
-use native.Mathlib.Numerals.{one-add}
-use native.Mathlib.Omega.{arith}
-use borrow.Author.Tests.{le-leb, lt-leb}
-use lib.Bits.{bitXor, xor-shr, xor-mod}
-use lib.ListN.{length, getD, take, drop, length-append, length-take, length-drop, drop-of-length-le}
+use mathlib.Core.Path.{_≡_, refl, sym, ap, ap₂, subst, _∙_}
+use mathlib.Core.List.{List, [], _∷_, _++_}
+use Prim.Native.Nat.{ℕ, zero, suc, _+_, _*_, _/_, _%_, _^_, _<_, _≤_}
+use native.Mathlib.{Nat.zero-add, Nat.add-assoc, Nat.pow-suc, Numerals.one-add, Omega.arith}
+use lib.Bits.{bitXor, xor-lt, xor-shr, xor-mod}
+use lib.ListN.{length, getD, take, drop}
 use lib.Pow.{pow-add}
-use lib.Seq.{drop-length, take-add, take-at, drop-at, drop-drop, length-take-le, paste-zero, take-all}
-use Rattle.octets.specs.Digits.{number, digits}
-use Rattle.octets.specs.Stream.{Keystream, from, enciphered, placed, put, numberPlaced}
-use Rattle.octets.proofs.Bits.{xor-twice}
-use Rattle.octets.proofs.Numbers.{Below, digits-number}
+use Rattle.octets.specs.Digits.{number, digits, numberAt, word}
+use Rattle.octets.specs.Buffers.{slice, placed, put}
+use Rattle.octets.specs.Stream.{Keystream, from, enciphered}
+use Rattle.octets.proofs.{Bits.xor-twice, Slices.length-slice, Slices.slice-add}
+use Rattle.octets.proofs.Buffers.{put-placed, length-put, placed-append, take-placed, drop-placed, placed-cut}
+use Rattle.octets.proofs.Buffers.{puts-on}
+use Rattle.octets.proofs.Numbers.{Below, below-slice, digits-number, number-read}
 
 from-zero : (k : Keystream) → from 0 k ≡ k
 from-zero k = λ i n. k (zero-add n i)
@@ -28,7 +26,8 @@ length-enciphered k [] = refl
 length-enciphered k (x ∷ xs) = ap suc (length-enciphered (from 1 k) xs)
 
 -- a stream taken in two calls, cut anywhere, is the stream taken in one
-pub enciphered-append : (k : Keystream) (xs ys : List ℕ) → enciphered k (xs ++ ys) ≡ enciphered k xs ++ enciphered (from (length xs) k) ys
+pub enciphered-append : (k : Keystream) (xs ys : List ℕ)
+    → enciphered k (xs ++ ys) ≡ enciphered k xs ++ enciphered (from (length xs) k) ys
 unfolding enciphered
 enciphered-append k [] ys = ap (λ (l : Keystream). enciphered l ys) (sym (from-zero k))
 enciphered-append k (x ∷ xs) ys =
@@ -44,7 +43,8 @@ enciphered-twice k [] = refl
 enciphered-twice k (x ∷ xs) = ap₂ (λ (y : ℕ) (l : List ℕ). y ∷ l) (xor-twice x (k 0)) (enciphered-twice (from 1 k) xs)
 
 -- only as much of the keystream counts as there are bytes
-pub enciphered-same : (k l : Keystream) (xs : List ℕ) → ((i : ℕ) → i < length xs → k i ≡ l i) → enciphered k xs ≡ enciphered l xs
+pub enciphered-same : (k l : Keystream) (xs : List ℕ) → ((i : ℕ) → i < length xs → k i ≡ l i)
+    → enciphered k xs ≡ enciphered l xs
 unfolding enciphered
 enciphered-same k l [] e = refl
 enciphered-same k l (x ∷ xs) e =
@@ -81,110 +81,125 @@ digits-xor (suc n) x z =
     ∙ ap (λ (k : Keystream). enciphered k (digits 256 n x)) (λ j i. getD (digits 256 (suc n) z) (sym (one-add i) j) 0))
 
 -- the exclusive or of two words, written as bytes, is the first word's bytes under the second's
-pub word-enciphered : (xs : List ℕ) (z : ℕ) → Below 256 xs → digits 256 (length xs) (bitXor (number 256 xs) z) ≡ enciphered (byteOfWord (length xs) z) xs
+pub word-enciphered : (xs : List ℕ) (z : ℕ) → Below 256 xs
+    → digits 256 (length xs) (bitXor (number 256 xs) z) ≡ enciphered (byteOfWord (length xs) z) xs
 word-enciphered xs z b =
     digits-xor (length xs) (number 256 xs) z
     ∙ ap (λ (l : List ℕ). enciphered (byteOfWord (length xs) z) l) (digits-number 256 (omega arith) xs b)
 
--- ---- runs placed in a buffer
+-- a keystream's elements are bytes
+abbrev pub OfBytes : Keystream → Type 0
+OfBytes k = (n : ℕ) → k n < 256
 
--- with room and without
-pub put-placed : (d : List ℕ) (at : ℕ) (run : List ℕ) → at + length run ≤ length d → put d at run ≡ placed d at run
-unfolding put
-put-placed d at run room = rw (le-leb (at + length run) (length d) room)
+pub below-enciphered : (k : Keystream) (xs : List ℕ) → OfBytes k → Below 256 xs → Below 256 (enciphered k xs)
+unfolding enciphered
+below-enciphered k [] h b i = b i
+below-enciphered k (x ∷ xs) h b zero = xor-lt 8 x (k 0) (b 0) (h 0)
+below-enciphered k (x ∷ xs) h b (suc i) = below-enciphered (from 1 k) xs (λ n. h (1 + n)) (λ j. b (suc j)) i
 
-pub put-none : (d : List ℕ) (at : ℕ) (run : List ℕ) → length d < at + length run → d ≡ put d at run
-unfolding put
-put-none d at run short = rw (lt-leb (at + length run) (length d) short)
+-- Bytes enciphered in two runs, the second from where the first left the keystream, and what they are read as put one
+-- behind the other: it is what both runs in one are read as, if that can be cut between them.
+pub read-on : {A : Type 0} (read : List ℕ → List A) (k : Keystream) (xs ys : List ℕ) (d : List A) (at : ℕ)
+    {e : List A} {next : ℕ} {l : Keystream}
+    → ((us vs : List ℕ) → length us ≡ length xs → read (us ++ vs) ≡ read us ++ read vs)
+    → l ≡ from (length xs) k → e ≡ put d at (read (enciphered k xs)) → next ≡ at + length (read (enciphered k xs))
+    → next + length (read (enciphered l ys)) ≤ length d
+    → put e next (read (enciphered l ys)) ≡ put d at (read (enciphered k (xs ++ ys)))
+read-on read k xs ys d at {l = l} cut gone done place room =
+    puts-on d at (read (enciphered k xs)) (read (enciphered l ys)) done place room
+    ∙ ap (put d at)
+    (sym (cut (enciphered k xs) (enciphered l ys) (length-enciphered k xs))
+    ∙ ap read
+    (ap (λ (j : Keystream). enciphered k xs ++ enciphered j ys) gone ∙ sym (enciphered-append k xs ys)))
 
--- a run that fills its buffer
-pub put-whole : (d run : List ℕ) → length run ≡ length d → put d 0 run ≡ run
-unfolding placed
-put-whole d run e =
-    let all : 0 + length run ≡ length d = omega arith in
-    put-placed d 0 run (omega arith)
-    ∙ ap (λ (n : ℕ). run ++ drop n d) all
-    ∙ ap (λ (l : List ℕ). run ++ l) (drop-length d)
-    ∙ append-nil run
+-- ---- parts of an input, enciphered in their place
 
-pub number-placed : (d : List ℕ) (at n value : ℕ) → n ≤ 8 → at + n ≤ length d → numberPlaced d at n value ≡ placed d at (digits 256 n value)
-unfolding numberPlaced
-number-placed d at n value small room = rw (le-leb n 8 small, le-leb (at + n) (length d) room)
+pub length-run : (k : Keystream) (input : List ℕ) (at n : ℕ) → at + n ≤ length input
+    → length (enciphered k (slice input at n)) ≡ n
+length-run k input at n h = length-enciphered k (slice input at n) ∙ length-slice input at n h
 
-module _ {A : Type 0} where
-  pub length-placed : (d : List A) (at : ℕ) (run : List A) → at + length run ≤ length d → length (placed d at run) ≡ length d
-  unfolding placed
-  length-placed d at run h = simp (length-append, length-take, length-drop) (omega arith)
+-- a part, and the part behind it from where the keystream has come to
+pub runs-append : (k : Keystream) (input : List ℕ) (at m n : ℕ) → at + (m + n) ≤ length input
+    → enciphered k (slice input at m) ++ enciphered (from m k) (slice input (at + m) n)
+    ≡ enciphered k (slice input at (m + n))
+runs-append k input at m n h =
+    ap (λ (p : ℕ). enciphered k (slice input at m) ++ enciphered (from p k) (slice input (at + m) n))
+    (sym (length-slice input at m (omega arith)))
+    ∙ sym (enciphered-append k (slice input at m) (slice input (at + m) n))
+    ∙ ap (enciphered k) (sym (slice-add input at m n))
 
-  pub placed-nothing : (buffer : List A) (at : ℕ) → placed buffer at [] ≡ buffer
-  unfolding placed
-  placed-nothing buffer at = sym (paste-zero buffer at [])
+pub runs-placed : (k : Keystream) (input output : List ℕ) (at m n : ℕ)
+    → at + (m + n) ≤ length input → at + (m + n) ≤ length output
+    → let left = placed output at (enciphered k (slice input at m)) in
+    placed left (at + m) (enciphered (from m k) (slice input (at + m) n))
+    ≡ placed output at (enciphered k (slice input at (m + n)))
+runs-placed k input output at m n hi ho =
+    let front : List ℕ = enciphered k (slice input at m) in
+    let more : List ℕ = enciphered (from m k) (slice input (at + m) n) in
+    let long : length front ≡ m = length-run k input at m (omega arith) in
+    let short : length more ≡ n = length-run (from m k) input (at + m) n (omega arith) in
+    ap (λ (p : ℕ). placed (placed output at front) (at + p) more) (sym long)
+    ∙ placed-append output at front more (omega arith)
+    ∙ ap (placed output at) (runs-append k input at m n hi)
 
-  -- two runs, the second right behind the first
-  pub placed-append : (buffer : List A) (at : ℕ) (xs ys : List A) → at + length xs + length ys ≤ length buffer
-      → placed (placed buffer at xs) (at + length xs) ys ≡ placed buffer at (xs ++ ys)
-  unfolding placed
-  placed-append buffer at xs ys h =
-      let n : ℕ = at + length xs in
-      let front : List A = take at buffer ++ xs in
-      let long : length front ≡ n = simp (length-append, length-take) (omega arith) in
-      let rest : drop (n + length ys) (front ++ drop n buffer) ≡ drop (n + length ys) buffer =
-      sym (drop-drop (length ys) n (front ++ drop n buffer))
-      ∙ ap (drop (length ys)) (drop-at front (drop n buffer) n long)
-      ∙ drop-drop (length ys) n buffer in
-      ap₂ (λ (l r : List A). l ++ ys ++ r) (take-at front (drop n buffer) n long) rest
-      ∙ ap₂ (λ (l : List A) (k : ℕ). l ++ drop k buffer) (append-assoc (take at buffer) xs ys)
-      (add-assoc at (length xs) (length ys) ∙ ap (λ (k : ℕ). at + k) (sym (length-append xs ys)))
+-- what was enciphered to the front of a buffer, and what stands behind it
+pub enciphered-front : (k : Keystream) (xs d : List ℕ) → length xs ≤ length d
+    → let e = placed d 0 (enciphered k xs) in
+    (take (length xs) e ≡ enciphered k xs) × (drop (length xs) e ≡ drop (length xs) d)
+enciphered-front k xs d h =
+    let run : List ℕ = enciphered k xs in
+    let room : length run ≤ length d = rw (length-enciphered k xs) h in
+    subst (λ (n : ℕ). (take n (placed d 0 run) ≡ run) × (drop n (placed d 0 run) ≡ drop n d)) (length-enciphered k xs)
+    (take-placed d run room, drop-placed d run room)
 
--- The input enciphered as far as `at`, and then m bytes further: what a call that goes on from there has to write.
-pub placed-enciphered : (k : Keystream) (input output : List ℕ) (at m : ℕ) → at + m ≤ length input → at + m ≤ length output
-    → placed (placed output 0 (enciphered k (take at input))) at (enciphered (from at k) (take m (drop at input)))
-    ≡ placed output 0 (enciphered k (take (at + m) input))
-placed-enciphered k input output at m hi ho =
-    let taken : length (take at input) ≡ at = length-take-le at input (omega arith) in
-    let front : List ℕ = enciphered k (take at input) in
-    let more : List ℕ = enciphered (from at k) (take m (drop at input)) in
-    let long : length front ≡ at = length-enciphered k (take at input) ∙ taken in
-    let short : length more ≡ m = length-enciphered (from at k) (take m (drop at input)) ∙ length-take-le m (drop at input) (simp length-drop (omega arith)) in
-    let place : at ≡ 0 + length front = omega arith in
-    ap (λ (p : ℕ). placed (placed output 0 front) p more) place
-    ∙ placed-append output 0 front more (omega arith)
-    ∙ ap (placed output 0)
-    (ap (λ (p : ℕ). front ++ enciphered (from p k) (take m (drop at input))) (sym taken)
-    ∙ sym (enciphered-append k (take at input) (take m (drop at input)))
-    ∙ ap (enciphered k) (sym (take-add at m input)))
+-- two runs, one after the other, to the front of a buffer
+pub enciphered-cut : (k : Keystream) (xs ys d : List ℕ) → length xs + length ys ≤ length d
+    → placed d 0 (enciphered k (xs ++ ys))
+    ≡ enciphered k xs ++ placed (drop (length xs) d) 0 (enciphered (from (length xs) k) ys)
+enciphered-cut k xs ys d h =
+    let front : List ℕ = enciphered k xs in
+    let more : List ℕ = enciphered (from (length xs) k) ys in
+    let long : length front ≡ length xs = length-enciphered k xs in
+    let rest : length more ≡ length ys = length-enciphered (from (length xs) k) ys in
+    ap (placed d 0) (enciphered-append k xs ys)
+    ∙ placed-cut d front more (omega arith)
+    ∙ ap (λ (n : ℕ). front ++ placed (drop n d) 0 more) long
 
--- what a run at the front of a buffer leaves there, and behind it
-pub take-placed : {A : Type 0} (buffer run : List A) → length run ≤ length buffer → take (length run) (placed buffer 0 run) ≡ run
-unfolding placed
-take-placed buffer run h = take-at run (drop (0 + length run) buffer) (length run) refl
+-- ---- n bytes read as a number, under a word of keystream, and written back
 
-pub drop-placed : {A : Type 0} (buffer run : List A) → length run ≤ length buffer → drop (length run) (placed buffer 0 run) ≡ drop (length run) buffer
-unfolding placed
-drop-placed buffer run h = drop-at run (drop (0 + length run) buffer) (length run) refl ∙ ap (λ (n : ℕ). drop n buffer) (zero-add (length run))
+-- the last n bytes of a word are the keystream's first
+abbrev pub Gives : ℕ → ℕ → Keystream → Type 0
+Gives n z k = (i : ℕ) → i < n → byteOfWord n z i ≡ k i
 
--- two runs at the front are the second placed behind the first
-pub placed-cut : {A : Type 0} (buffer xs ys : List A) → length xs + length ys ≤ length buffer
-    → placed buffer 0 (xs ++ ys) ≡ xs ++ placed (drop (length xs) buffer) 0 ys
-unfolding placed
-placed-cut buffer xs ys h =
-    append-assoc xs ys (drop (0 + length (xs ++ ys)) buffer)
-    ∙ ap (λ (l : List _). xs ++ (ys ++ l))
-    (ap (λ (n : ℕ). drop n buffer) (zero-add (length (xs ++ ys)) ∙ length-append xs ys)
-    ∙ sym (drop-drop (length ys) (length xs) buffer)
-    ∙ ap (λ (n : ℕ). drop n (drop (length xs) buffer)) (sym (zero-add (length ys))))
+-- the bytes that `cover` writes
+abbrev pub under : List ℕ → ℕ → ℕ → ℕ → List ℕ
+under input at n z = digits 256 n (bitXor (word (numberAt input at n)) z)
 
--- a run written to the front of the part from `at` on stands at `at` in the whole
-pub placed-part : {A : Type 0} (buffer : List A) (at : ℕ) (run : List A) → at + length run ≤ length buffer
-    → take at buffer ++ (placed (take (length buffer - at) (drop at buffer)) 0 run ++ drop (length buffer - at) (drop at buffer)) ≡ placed buffer at run
-unfolding placed
-placed-part buffer at run h =
-    let k : ℕ = length buffer - at in
-    let long : length (drop at buffer) ≡ k = length-drop at buffer in
-    let part : take k (drop at buffer) ≡ drop at buffer = take-all k (drop at buffer) (omega arith) in
-    let none : drop k (drop at buffer) ≡ [] = drop-of-length-le (drop at buffer) {i = k} (omega arith) in
-    let rest : drop (0 + length run) (drop at buffer) ≡ drop (at + length run) buffer =
-    ap (λ (n : ℕ). drop n (drop at buffer)) (zero-add (length run)) ∙ drop-drop (length run) at buffer in
-    ap₂ (λ (p e : List _). take at buffer ++ (run ++ drop (0 + length run) p ++ e)) part none
-    ∙ ap (λ (l : List _). take at buffer ++ l) (append-nil (run ++ drop (0 + length run) (drop at buffer)) ∙ ap (λ (l : List _). run ++ l) rest)
-    ∙ sym (append-assoc (take at buffer) run (drop (at + length run) buffer))
+module _ (k : Keystream) (input : List ℕ) (at n z : ℕ) (small : n ≤ 8) (hi : at + n ≤ length input)
+    (bytes : Below 256 input) (gives : Gives n z k) where
+  pub run-under : under input at n z ≡ enciphered k (slice input at n)
+  run-under =
+      let some : List ℕ = slice input at n in
+      let long : length some ≡ n = length-slice input at n hi in
+      ap (λ (v : ℕ). digits 256 n (bitXor v z)) (number-read input at n bytes small)
+      ∙ subst (λ (m : ℕ). digits 256 m (bitXor (number 256 some) z) ≡ enciphered (byteOfWord m z) some) long
+      (word-enciphered some z (below-slice input at n bytes))
+      ∙ enciphered-same (byteOfWord n z) k some (λ i h. gives i (omega arith))
+
+  pub run-put : (output : List ℕ) → at + n ≤ length output
+      → put output at (under input at n z) ≡ placed output at (enciphered k (slice input at n))
+  run-put output ho =
+      let long : length (enciphered k (slice input at n)) ≡ n = length-run k input at n hi in
+      ap (put output at) run-under ∙ put-placed output at (enciphered k (slice input at n)) (omega arith)
+
+-- m bytes under one word, and n behind them under another
+pub two-under : (k : Keystream) (input output left : List ℕ) (at m n one two : ℕ) → m ≤ 8 → n ≤ 8 → Below 256 input
+    → at + (m + n) ≤ length input → at + (m + n) ≤ length output
+    → Gives m one k → left ≡ put output at (under input at m one) → Gives n two (from m k)
+    → put left (at + m) (under input (at + m) n two) ≡ placed output at (enciphered k (slice input at (m + n)))
+two-under k input output left at m n one two hm hn bytes hi ho first done second =
+    let long : length left ≡ length output = ap length done ∙ length-put output at _ in
+    let so = done ∙ run-put k input at m one hm (omega arith) bytes first output (omega arith) in
+    run-put (from m k) input (at + m) n two hn (omega arith) bytes second left (omega arith)
+    ∙ ap (λ (d : List ℕ). placed d (at + m) (enciphered (from m k) (slice input (at + m) n))) so
+    ∙ runs-placed k input output at m n hi ho

@@ -1,8 +1,7 @@
 -- Numbers as runs of digits, the most significant first: bits (base 2) and bytes (base 256) alike.
--- Assumes nothing.
 use Prim.Native.Nat.{ℕ, zero, suc, _+_, _*_, _/_, _%_, _^_}
 use mathlib.Core.List.{List, [], _∷_, _++_}
-use lib.ListN.{take, drop}
+use Rattle.octets.specs.Buffers.{slice}
 
 -- the number that the digits go on to make of what stands before them
 unfoldable pub numberAfter : ℕ → ℕ → List ℕ → ℕ
@@ -18,7 +17,8 @@ unfoldable pub digits : ℕ → ℕ → ℕ → List ℕ
 digits base zero x = []
 digits base (suc n) x = x / base ^ n % base ∷ digits base n x
 
--- The byte rule: bit 0 is the most significant bit of the first byte, bit 7 its least, bit 8 the most significant of the second.
+-- The byte rule: bit 0 is the most significant bit of the first byte, bit 7 its least, bit 8 the most significant of
+-- the second.
 unfoldable pub bitsOf : List ℕ → List ℕ
 bitsOf [] = []
 bitsOf (x ∷ xs) = digits 2 8 x ++ bitsOf xs
@@ -27,10 +27,10 @@ bitsOf (x ∷ xs) = digits 2 8 x ++ bitsOf xs
 abbrev pub byteOf : List ℕ → ℕ
 byteOf bits = number 2 bits
 
--- the n elements from `at`, or as many as are there
-abbrev pub slice : List ℕ → ℕ → ℕ → List ℕ
-slice run at n = take n (drop at run)
-
--- the number that n bytes from `at` make, or as many as are there, in a word of 64 bits
+-- the number that n bytes from `at` make, or as many as are there
 abbrev pub numberAt : List ℕ → ℕ → ℕ → ℕ
-numberAt bytes at n = number 256 (slice bytes at n) % 2 ^ 64
+numberAt bytes at n = number 256 (slice bytes at n)
+
+-- what 64 bits keep of a number
+abbrev pub word : ℕ → ℕ
+word n = n % 2 ^ 64

@@ -1,4 +1,4 @@
+pub mod Buffers
 pub mod Digits
-pub mod Outcome
-pub mod Refusals
+pub mod Rows
 pub mod Stream

@@ -1,16 +1,18 @@
--- Bytes under a keystream, whatever cipher makes it, and bytes placed in a lent buffer.
--- Assumes nothing.
+-- Bytes under a keystream, whatever cipher makes it.
 use Prim.Native.Nat.{ℕ, _+_}
-use mathlib.Core.List.{List, [], _∷_, _++_}
-use mathlib.Core.Bool.{cond}
+use mathlib.Core.List.{List, [], _∷_}
 use lib.Bits.{bitXor}
-use lib.Dec.{leb}
-use lib.ListN.{length, take, drop}
-use Rattle.octets.specs.Digits.{digits}
 
 -- a keystream says its byte number n, counted from 0
 abbrev pub Keystream : Type 0
 Keystream = ℕ → ℕ
+
+-- What packs and the link need of a cipher: how many bytes its keys and its initial values have, and the keystream of
+-- each two.
+pub record Cipher : Type 0 where
+  pub keyBytes : ℕ
+  pub valueBytes : ℕ
+  pub stream : List ℕ → List ℕ → Keystream
 
 -- the keystream from its byte number n on
 abbrev pub from : ℕ → Keystream → Keystream
@@ -20,15 +22,3 @@ from n k = λ i. k (n + i)
 unfoldable pub enciphered : Keystream → List ℕ → List ℕ
 enciphered k [] = []
 enciphered k (x ∷ xs) = bitXor x (k 0) ∷ enciphered (from 1 k) xs
-
--- the buffer with a run of elements in its place from index `at`, and nothing else changed
-unfoldable pub placed : {A : Type 0} → List A → ℕ → List A → List A
-placed buffer at run = take at buffer ++ run ++ drop (at + length run) buffer
-
--- a run of bytes from index `at` where it has room there; otherwise nothing changes
-unfoldable pub put : List ℕ → ℕ → List ℕ → List ℕ
-put buffer at run = cond (leb (at + length run) (length buffer)) (placed buffer at run) buffer
-
--- the buffer with the last n bytes of a number placed from `at`; unchanged where there are more than eight or no room for them
-unfoldable pub numberPlaced : List ℕ → ℕ → ℕ → ℕ → List ℕ
-numberPlaced buffer at n value = cond (leb n 8) (cond (leb (at + n) (length buffer)) (placed buffer at (digits 256 n value)) buffer) buffer

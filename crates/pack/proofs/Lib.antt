@@ -1,9 +1,5 @@
-pub mod Accepted
-pub mod Demand2
-pub mod Fours
-pub mod Front
-pub mod Laid
-pub mod Order
-pub mod Runs
-pub mod Sections
+pub mod AcceptedFiles
+pub mod LaidFiles
+pub mod LongFiles
+pub mod Loops
 pub mod Theorems

@@ -1,58 +1,212 @@
--- Nothing else meets a promise: each promise about a pack is an equation. And what the ring's making comes to.
--- Assumes nothing.
-use mathlib.Core.Path.{_≡_}
-use Prim.Native.Nat.{ℕ, _+_, _≤_}
-use mathlib.Core.Bool.{Bool}
-use mathlib.Core.List.{List, [], _∷_}
-use borrow.Author.Tests.{le-ltb, eq-eqb}
-use lib.IntN.{ℤ}
+-- Demand 2: sealed parts open to themselves, an opened file seals to itself, and the opener accepts exactly the layouts
+-- of parts within their limits, each from the laws of accepted and of laid files. Then what refusals leave, and what a
+-- ring holds and makes.
+use Prim.Native.Nat.{ℕ, _+_, _*_, _<_, _≤_}
+use mathlib.Core.{List.List, List.[], List._∷_, Path._≡_, Path.refl, Path.sym, Path.ap, Path.subst, Path._∙_}
 use native.Mathlib.Omega.{arith}
-use lib.ListN.{length, replicate}
-use Rattle.octets.specs.Digits.{slice}
-use Rattle.octets.proofs.Runs.{length-slice}
-use Rattle.octets.proofs.Streams.{put-whole}
-use Rattle.octets.specs.Outcome.{Outcome, only-one}
-use Rattle.pack.specs.Calls.{surveying, opening, sealing}
-use Rattle.pack.specs.Layout.{Parts, nameGood, row}
-use Rattle.pack.specs.Ring.{keyAt, ringOf, making, madeUnder}
-use Rattle.pack.specs.Suite.{Suite}
-use Rattle.pack.specs.declared.Opened.{Opened}
-use Rattle.pack.specs.declared.Sealed.{Sealed}
-use Rattle.trivium.specs.Record.{packed}
-use Rattle.trivium.specs.Registers.{started}
-use Rattle.trivium.specs.declared.Made.{Made}
+use lib.{Dec.T, IntN.ℤ, IntN.pos, ListN.length, ListN.getD, ListN.take, ListN.replicate, Signed.mag}
+use Rattle.octets.specs.{Buffers.slice, Buffers.placed, Stream.Cipher}
+use Rattle.octets.proofs.{Buffers.put-whole, Buffers.take-placed, Numbers.Below, Numbers.number-below}
+use Rattle.octets.proofs.{Slices.length-slice, Streams.OfBytes}
+use Rattle.refusals.specs.{Numbers.accepted, Outcome.Outcome, Outcome.outcome}
+use Rattle.refusals.specs.Rules.{AllRight, first, Leaves}
+use Rattle.refusals.proofs.Faults.{numbered, all-right, none-wrong, right-after}
+use Rattle.refusals.proofs.Settled.{done-if, settled-number, settled-leaves}
+use Rattle.trivium.specs.{Calls.refusedMaking, Record.state, Record.packed, declared.Made.Made}
+use Rattle.trivium.specs.{declared.Registers.Registers}
+use Rattle.trivium.specs.Keystream.{bits, keystream, trivium}
+use Rattle.trivium.specs.Registers.{State, steps, started}
+use Rattle.trivium.proofs.Steps.{length-bits, bits-below, state-started}
+use Rattle.pack.specs.{Limits.lastKey, Places.sampleCount, Places.partsOf, declared.Opened.Opened}
+use Rattle.pack.specs.{declared.Sealed.Sealed}
+use Rattle.pack.specs.Calls.{refusedOpening, acceptedOpening, surveying, openingPack, sealingPack}
+use Rattle.pack.specs.Faults.{faultsFromSamples, faultsFromKey, fileFaults, openFaults, sealFaults}
+use Rattle.pack.specs.Layout.{Parts, Within, keyNamed, layout}
+use Rattle.pack.specs.Ring.{keyAt, ringOf, keying}
+use Rattle.pack.proofs.{LaidFiles.layout-accepted, Loops.loops-even}
+use Rattle.pack.proofs.AcceptedFiles.{samples-counted, laid-again, parts-within}
 
-pub name-good-only : (name : List ℕ) (one other : Bool) → one ≡ nameGood name → other ≡ nameGood name → one ≡ other
-name-good-only name one other = only-one
+-- every number of a file's rules says no
+pub file-numbered : (cipher : Cipher) (file : List ℕ) → T (numbered (fileFaults cipher file))
+unfolding fileFaults faultsFromKey faultsFromSamples
+file-numbered cipher file = tt
 
-pub ring-of-only : (bytes : List ℕ) (one other : List (List ℕ)) → one ≡ ringOf bytes → other ≡ ringOf bytes → one ≡ other
-ring-of-only bytes one other = only-one
+pub file-right : (cipher : Cipher) (file : List ℕ) → first (fileFaults cipher file) ≡ accepted
+    → AllRight (fileFaults cipher file)
+file-right cipher file = none-wrong (fileFaults cipher file) (file-numbered cipher file)
+
+-- ---- demand 2
+
+-- The sealer takes what is within limits, and room for it: it asks besides only that a run of loops is even, which
+-- follows.
+within-sealed : (cipher : Cipher) (p : Parts) (size room : ℕ) → Within cipher p → size ≤ room
+    → AllRight (sealFaults cipher p size room)
+unfolding sealFaults
+within-sealed cipher p size room w h =
+    let even = loops-even (length (p .samples)) (p .loops) (w .loops) in (
+      w .nameCount,
+      (
+        w .nameBytes,
+        (w .valueCount, (w .keyNumber, (w .sampleCount, (w .loopCount, (omega arith, (w .loops, (h, tt))))))),
+      ),
+    )
+
+-- and nothing else, where bytes are bytes and samples have 16 bits
+sealed-within : (cipher : Cipher) (p : Parts) (size room : ℕ) → AllRight (sealFaults cipher p size room)
+    → ((i : ℕ) → getD (p .value) i 0 < 256) → ((i : ℕ) → mag (getD (p .samples) i (pos 0)) < 32768) → Within cipher p
+unfolding sealFaults
+sealed-within cipher p size room h values bits =
+    record {
+      nameCount = h .0;
+      nameBytes = h .1 .0;
+      valueCount = h .1 .1 .0;
+      keyNumber = h .1 .1 .1 .0;
+      valueBytes = values;
+      sampleCount = h .1 .1 .1 .1 .0;
+      sampleBits = bits;
+      loopCount = h .1 .1 .1 .1 .1 .0;
+      loops = h .1 .1 .1 .1 .1 .1 .1 .0;
+    }
+
+module _ (cipher : Cipher) (ring : List (List ℕ)) where
+  -- an accepted file opens to its parts' samples, given room
+  opens : (file : List ℕ) (sound : List ℤ) (p : Parts) → AllRight (fileFaults cipher file)
+      → partsOf cipher ring file ≡ p
+      → length (p .samples) ≤ length sound
+      → openingPack cipher ring file sound ≡ outcome (acceptedOpening cipher file) (placed sound 0 (p .samples))
+  unfolding openingPack openFaults
+  opens file sound p right parts room =
+      let counted = samples-counted cipher ring file right in
+      let fits : sampleCount cipher file ≤ length sound = omega
+      (arith, ap (λ (q : Parts). length (q .samples)) parts) in
+      sym (done-if _ _ _ (right-after (fileFaults cipher file) _ right (fits, tt)))
+      ∙ ap (λ (q : Parts). outcome (acceptedOpening cipher file) (placed sound 0 (q .samples))) parts
+
+  -- parts that aren't refused are sealed
+  seals : (p : Parts) (output : List ℕ) → AllRight (sealFaults cipher p (length (layout cipher ring p)) (length output))
+      → sealingPack cipher ring p output
+      ≡ outcome (record { refusal = accepted; length = length (layout cipher ring p) })
+      (placed output 0 (layout cipher ring p))
+  unfolding sealingPack
+  seals p output right = sym (done-if _ _ _ right)
+
+  pub sealed-opens : (p : Parts) (output : List ℕ) (sound : List ℤ)
+      → first (sealFaults cipher p (length (layout cipher ring p)) (length output)) ≡ accepted
+      → ((i : ℕ) → getD (p .value) i 0 < 256)
+      → ((i : ℕ) → mag (getD (p .samples) i (pos 0)) < 32768)
+      → length (p .samples) ≤ length sound
+      → let file = take (sealingPack cipher ring p output .answer .length) (sealingPack cipher ring p output .buffer) in
+      (openingPack cipher ring file sound ≡ outcome (acceptedOpening cipher file) (placed sound 0 (p .samples)))
+      × (partsOf cipher ring file ≡ p)
+  unfolding sealFaults
+  sealed-opens p output sound e values bits room =
+      let file : List ℕ = layout cipher ring p in
+      let right : AllRight (sealFaults cipher p (length file) (length output)) = none-wrong _ tt e in
+      let laid = layout-accepted cipher ring p
+      (sealed-within cipher p (length file) (length output) right values bits) in
+      let written : take (sealingPack cipher ring p output .answer .length) (sealingPack cipher ring p output .buffer)
+      ≡ file =
+      ap (λ (o : Outcome Sealed ℕ). take (o .answer .length) (o .buffer)) (seals p output right)
+      ∙ take-placed output file (omega arith) in
+      subst
+      (λ (f : List ℕ).
+      (openingPack cipher ring f sound ≡ outcome (acceptedOpening cipher f) (placed sound 0 (p .samples)))
+      × (partsOf cipher ring f ≡ p))
+      (sym written) (opens file sound p (laid .0) (laid .1) room, laid .1)
+
+-- what is said of every file asks that the keystreams' elements are bytes
+module _ (cipher : Cipher) (ring : List (List ℕ))
+    (bytes : (key value : List ℕ) → OfBytes (cipher .stream key value)) where
+  pub opened-seals : (file output : List ℕ) → Below 256 file → first (fileFaults cipher file) ≡ accepted
+      → length file ≤ length output
+      → sealingPack cipher ring (partsOf cipher ring file) output
+      ≡ outcome (record { refusal = accepted; length = length file }) (placed output 0 file)
+  opened-seals file output b e room =
+      let p : Parts = partsOf cipher ring file in
+      let right = file-right cipher file e in
+      let same : layout cipher ring p ≡ file = laid-again cipher ring file right b (bytes _ _) in
+      seals cipher ring p output
+      (within-sealed cipher p (length (layout cipher ring p)) (length output) (parts-within cipher ring file right b)
+      (omega (arith, ap length same)))
+      ∙ ap (λ (l : List ℕ). outcome {A = Sealed} (record { refusal = accepted; length = length l })
+      (placed output 0 l)) same
+
+  -- The opener accepts exactly the files that are laid out from parts within their limits.
+  pub opener-accepts-exactly : (file : List ℕ) → Below 256 file
+      → (first (fileFaults cipher file) ≡ accepted → (p : Parts) × Within cipher p × (file ≡ layout cipher ring p))
+      × (((p : Parts) × Within cipher p × (file ≡ layout cipher ring p)) → first (fileFaults cipher file) ≡ accepted)
+  opener-accepts-exactly file b = (
+    λ e.
+        let right = file-right cipher file e in (
+          partsOf cipher ring file,
+          parts-within cipher ring file right b,
+          sym (laid-again cipher ring file right b (bytes _ _)),
+        ),
+    λ laid.
+        subst (λ (f : List ℕ). first (fileFaults cipher f) ≡ accepted) (sym (laid .2))
+        (sym (all-right _ (layout-accepted cipher ring (laid .0) (laid .1) .0))),
+  )
+
+-- Trivium's are
+pub trivium-bytes : (key value : List ℕ) → OfBytes (trivium .stream key value)
+unfolding keystream
+trivium-bytes key value n =
+    let s : State = steps (8 * n) (started key value) in
+    rw length-bits at (number-below 2 (bits 8 s) (bits-below 8 s))
+
+-- ---- a refused call leaves everything as given
+
+pub surveying-leaves : (cipher : Cipher) (file : List ℕ)
+    → Leaves (λ o. o .refusal) refusedOpening (surveying cipher file)
+unfolding surveying
+surveying-leaves cipher file = settled-leaves _ _ _ (λ o. o .refusal) refl (λ n. refl)
+
+-- a survey's number is the first broken rule's
+pub survey-refusal : (cipher : Cipher) (file : List ℕ) → surveying cipher file .refusal ≡ first (fileFaults cipher file)
+unfolding surveying
+survey-refusal cipher file = settled-number _ _ _ (λ (o : Opened). o .refusal) refl (λ n. refl)
+
+pub opening-leaves : (cipher : Cipher) (ring : List (List ℕ)) (file : List ℕ) (output : List ℤ)
+    → Leaves (λ o. o .answer .refusal) (λ n. outcome (refusedOpening n) output) (openingPack cipher ring file output)
+unfolding openingPack
+opening-leaves cipher ring file output = settled-leaves _ _ _ (λ o. o .answer .refusal) refl (λ n. refl)
+
+pub sealing-leaves : (cipher : Cipher) (ring : List (List ℕ)) (p : Parts) (output : List ℕ)
+    → Leaves (λ o. o .answer .refusal) (λ n. outcome (record { refusal = n; length = 0 }) output)
+    (sealingPack cipher ring p output)
+unfolding sealingPack
+sealing-leaves cipher ring p output = settled-leaves _ _ _ (λ o. o .answer .refusal) refl (λ n. refl)
+
+pub keying-leaves : (ring : List (List ℕ)) (number : ℕ) (value : List ℕ)
+    → Leaves (λ m. m .refusal) refusedMaking (keying ring number value)
+unfolding keying
+keying-leaves ring number value = settled-leaves _ _ _ (λ m. m .refusal) refl (λ n. refl)
+
+-- ---- the ring
 
 -- forty bytes are four keys, each with all of its ten
-pub ring-keys : (bytes : List ℕ) → 40 ≤ length bytes → ringOf bytes ≡ slice bytes 0 10 ∷ slice bytes 10 10 ∷ slice bytes 20 10 ∷ slice bytes 30 10 ∷ []
+pub ring-keys : (bytes : List ℕ) → 40 ≤ length bytes
+    → ringOf bytes ≡ slice bytes 0 10 ∷ slice bytes 10 10 ∷ slice bytes 20 10 ∷ slice bytes 30 10 ∷ []
 unfolding ringOf
 ring-keys bytes room =
-    λ i. key-there bytes 0 (omega arith) i ∷ key-there bytes 10 (omega arith) i ∷ key-there bytes 20 (omega arith) i ∷ key-there bytes 30 (omega arith) i ∷ []
+    λ i.
+    key-there 0 (omega arith) i ∷ key-there 10 (omega arith) i ∷ key-there 20 (omega arith) i
+    ∷ key-there 30 (omega arith) i ∷ []
   where
-    key-there : (bytes : List ℕ) (at : ℕ) → at + 10 ≤ length bytes → keyAt bytes at ≡ slice bytes at 10
-    key-there bytes at room = put-whole (replicate 10 0) (slice bytes at 10) (length-slice bytes at 10 room)
-
-pub making-only : (ring : List (List ℕ)) (number : ℕ) (value : List ℕ) (one other : Made) → one ≡ making ring number value → other ≡ making ring number value → one ≡ other
-making-only ring number value one other = only-one
-
-pub surveying-only : (suite : Suite) (file : List ℕ) (one other : Opened) → one ≡ surveying suite file → other ≡ surveying suite file → one ≡ other
-surveying-only suite file one other = only-one
-
-pub opening-only : (suite : Suite) (ring : List (List ℕ)) (file : List ℕ) (output : List ℤ) (one other : Outcome Opened ℤ)
-    → one ≡ opening suite ring file output → other ≡ opening suite ring file output → one ≡ other
-opening-only suite ring file output one other = only-one
-
-pub sealing-only : (suite : Suite) (ring : List (List ℕ)) (p : Parts) (output : List ℕ) (one other : Outcome Sealed ℕ)
-    → one ≡ sealing suite ring p output → other ≡ sealing suite ring p output → one ≡ other
-sealing-only suite ring p output one other = only-one
+    key-there : (at : ℕ) → at + 10 ≤ length bytes → keyAt bytes at ≡ slice bytes at 10
+    key-there at h = put-whole (replicate 10 0) (slice bytes at 10) (length-slice bytes at 10 h)
 
 -- with a number of the ring and a value of ten bytes, the cipher is the row's
-pub ring-makes : (ring : List (List ℕ)) (number : ℕ) (value : List ℕ) → number ≤ 3 → length value ≡ 10
-    → making ring number value .registers ≡ packed (started (row ring number) value)
-unfolding making madeUnder
-ring-makes ring number value small ten = rw (le-ltb 3 number small, eq-eqb (length value) 10 ten)
+pub ring-makes : (ring : List (List ℕ)) (number : ℕ) (value : List ℕ) → number ≤ lastKey
+    → length value ≡ trivium .valueBytes
+    → keying ring number value .registers ≡ packed (started (keyNamed ring number) value)
+unfolding keying
+ring-makes ring number value small ten = ap (λ (m : Made). m .registers) (sym (done-if _ _ _ (small, (ten, tt))))
+
+-- and gives that key's keystream
+pub ring-streams : (ring : List (List ℕ)) (number : ℕ) (value : List ℕ) → number ≤ lastKey
+    → length value ≡ trivium .valueBytes
+    → keystream (state (keying ring number value .registers)) ≡ trivium .stream (keyNamed ring number) value
+ring-streams ring number value small ten =
+    ap (λ (r : Registers). keystream (state r)) (ring-makes ring number value small ten)
+    ∙ ap keystream (state-started (keyNamed ring number) value)

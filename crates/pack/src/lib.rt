@@ -1,6 +1,8 @@
 ghost use mathlib.Core.Path.{_≡_};
+ghost use lib.ListN.{length};
 ghost use Rattle.pack.specs.Layout.{nameGood};
-ghost use Rattle.pack.specs.Ring.{keyAt, ringOf, making, madeUnder};
+ghost use Rattle.pack.specs.Ring.{keyAt, ringOf, keying};
+ghost use Rattle.trivium.specs.Calls.{makingCipher};
 use trivium::Made;
 use trivium::Registers;
 
@@ -22,7 +24,23 @@ pub struct Sealed {
     pub length: usize,
 }
 
-const BAD_KEY_NUMBER: u8 = 14;
+// The limits of a pack's counts and numbers, for the code: what each says stands in specs/Limits.antt.
+pub const MOST_NAME: usize = 32;
+
+pub const LAST_KEY: u8 = 3;
+
+pub const MOST_SAMPLES: usize = 16384;
+
+pub const MOST_LOOPS: usize = 8;
+
+// What the key section counts: its key number and an initial value.
+pub const KEY_COUNT: u8 = 11;
+
+// The four keys of a ring, one after the other.
+pub const RING_BYTES: usize = 40;
+
+// The longest file: every count at its limit.
+pub const MOST_BYTES: usize = 32882;
 
 // Whether each byte of a name is one that a name may have.
 pub fn name_good(name: &[u8]) -> bool
@@ -47,7 +65,7 @@ fn key_at(bytes: &[u8], at: usize) -> [u8; 10]
     ensures { λ r. ⌜ r ≡ keyAt (now (bytes .entry)) at ⌝ }
 {
     let mut key = [0; 10];
-    octets::copy(&mut key, 0, octets::part(bytes, at, 10));
+    octet_writer::copy(&mut key, 0, octets::slice(bytes, at, 10));
     key
 }
 
@@ -63,13 +81,13 @@ pub fn ring_of(bytes: &[u8]) -> [[u8; 10]; 4]
     ]
 }
 
-// A cipher under the key of the ring that a number names: the row's making, or 14 for a number over 3.
+// A cipher under the key of the ring that a number names.
 pub fn keyed(ring: [[u8; 10]; 4], number: u8, value: &[u8]) -> Made
-    ensures { λ r. ⌜ r ≡ making ring number (now (value .entry)) ⌝ }
+    ensures { λ r. ⌜ r ≡ keying ring number (now (value .entry)) ⌝ }
 {
-    if 3 < number {
+    if LAST_KEY < number {
         return Made {
-            refusal: BAD_KEY_NUMBER,
+            refusal: refusals::BAD_KEY_NUMBER,
             registers: Registers {
                 a1: 0,
                 a0: 0,
@@ -87,7 +105,7 @@ pub fn keyed(ring: [[u8; 10]; 4], number: u8, value: &[u8]) -> Made
 
 // An array's length is known where it is lent as an array.
 fn made(key: &[u8; 10], value: &[u8]) -> Made
-    ensures { λ r. ⌜ r ≡ madeUnder (now (key .entry)) (now (value .entry)) ⌝ }
+    ensures { λ r. ⌜ (length (now (key .entry)) ≡ 10) × (r ≡ makingCipher (now (key .entry)) (now (value .entry))) ⌝ }
 {
     Registers::new(key, value)
 }

@@ -4,13 +4,11 @@ ghost use mathlib.Core.Path.{_≡_};
 ghost use lib.ListN.{length};
 use pack::Opened;
 
-const KEY_BYTES: usize = 40;
-
 // Room for the samples of the longest pack.
 fn silence() -> [i16; 16384]
     ensures { λ r. ⌜ 16384 ≡ length r ⌝ }
 {
-    [0; 16384]
+    [0; pack::MOST_SAMPLES]
 }
 
 fn print_line(word: &[u8], number: u64) {
@@ -23,7 +21,7 @@ fn print_pack(opened: Opened, file: &[u8]) {
     let name_at = opened.name_at;
     let name_length = opened.name_length;
     io::write_all(1, b"name ");
-    io::write_all(1, octets::part(file, name_at, name_length));
+    io::write_all(1, octets::slice(file, name_at, name_length));
     io::write_all(1, b"\n");
     print_line(b"key ", opened.key as u64);
     print_line(b"samples ", opened.samples as u64);
@@ -33,11 +31,11 @@ fn print_pack(opened: Opened, file: &[u8]) {
 fn show(input: &[u8])
     requires { ⌜ 40 ≤ length (now input) ⌝ }
 {
-    let file = &input[KEY_BYTES..];
+    let file = &input[pack::RING_BYTES..];
     let mut samples = silence();
     let opened = opener::open(file, pack::ring_of(input), &mut samples);
     let refusal = opened.refusal;
-    if refusal == 0 {
+    if refusal == refusals::ACCEPTED {
         print_pack(opened, file);
     } else {
         print_line(b"refused ", refusal as u64);
@@ -49,8 +47,8 @@ fn show(input: &[u8])
 fn main() {
     let mut input = io::large_buffer();
     let got = io::read_full(0, &mut input);
-    if got < KEY_BYTES {
-        print_line(b"refused ", 1);
+    if got < pack::RING_BYTES {
+        print_line(b"refused ", refusals::BAD_KEY as u64);
         return;
     }
     show(&input[..got]);

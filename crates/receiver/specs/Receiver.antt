@@ -1,36 +1,102 @@
--- What each public call of a receiver owes, for every input: its answer, and what both lent buffers hold afterwards.
--- Assumes nothing.
+-- What each public call of a receiver owes, for every input: its rules in order, what it does, what a refusal
+-- leaves. Hearing is lent two buffers, one for the sound and one for the answer frame.
 use Prim.Native.Nat.{ℕ, _+_}
-use mathlib.Core.Bool.{cond, _&&_}
-use mathlib.Core.List.{List}
-use lib.Dec.{leb, ltb, eqb}
-use lib.ListN.{length}
-use Rattle.octets.specs.Refusals.{accepted, noRoom, wrongSound, notAFrame, otherSession, impossible, outOfRule}
-use Rattle.octets.specs.Stream.{placed}
-use Rattle.frames.specs.Blocks.{blocks, place, size}
-use Rattle.frames.specs.Cipher.{Cipher, covered}
+use mathlib.Core.{Bool.Bool, Bool.true, Bool.false, Bool.cond, List.List, List.[], List._∷_, List._++_}
+use lib.{Dec.ltb, Dec.eqb, ListN.length}
+use Rattle.octets.specs.{Buffers.placed, Stream.Cipher}
+use Rattle.refusals.specs.Numbers.{accepted, noRoom, wrongSound, notAFrame, otherSession, impossible, outOfRule}
+use Rattle.refusals.specs.Rules.{_over_, _under_, _unlike_, unless, Fault, _says_, settled}
+use Rattle.blocks.specs.{Blocks.blocks, Blocks.place, Blocks.size, Covering.covered}
+use Rattle.names.specs.Naming.{nameFaults, noKey, noPair}
 use Rattle.frames.specs.Frames.{Frame, opening, block, holds, tooLong, bytes, Heard, it, noFrame, heard}
-use Rattle.frames.specs.Naming.{named}
-use Rattle.receiver.specs.Rules.{receiverInRule}
-use Rattle.receiver.specs.declared.Receiver.{Receiver}
-use Rattle.receiver.specs.declared.ReceiverAnswer.{ReceiverAnswer}
-use Rattle.receiver.specs.declared.ReceiverMade.{ReceiverMade}
+use Rattle.receiver.specs.{Rules.receiverInRule, declared.Receiver.Receiver}
+use Rattle.receiver.specs.{declared.ReceiverAnswer.ReceiverAnswer, declared.ReceiverMade.ReceiverMade}
 
--- the same receiver with this transfer: session, length, blocks held
-abbrev pub taking : Receiver → ℕ → ℕ → ℕ → Receiver
-taking r session length count = record { key = r .key; pair = r .pair; session = session; length = length; count = count }
-
--- ---- making: 1, 2, of the names; a refused making has only zeros to give
+-- ---- making: the names' refusals; a refused making has only zeros to give
 
 abbrev pub freshReceiver : List ℕ → List ℕ → Receiver
 freshReceiver key pair = record { key = key; pair = pair; session = 0; length = 0; count = 0 }
 
+abbrev pub made : Receiver → ℕ → ReceiverMade
+made r number = record { refusal = number; receiver = r }
+
 unfoldable pub makingReceiver : List ℕ → List ℕ → ReceiverMade
-makingReceiver key pair = let n = named key pair in record { refusal = n .refusal; receiver = freshReceiver (n .key) (n .pair) }
+makingReceiver key pair =
+    settled (nameFaults key pair) (made (freshReceiver key pair) accepted) (made (freshReceiver noKey noPair))
 
--- ---- hearing: 27, 24, 25, 26, 23, 19
+-- ---- hearing: Opening and Block are the frames for this end
 
--- what hearing comes to: the answer, and what the buffers for the sound and for the answer frame hold afterwards
+abbrev pub forReceiver : Heard → Bool
+forReceiver noFrame = false
+forReceiver (it (opening session sound)) = true
+forReceiver (it (block session k run)) = true
+forReceiver (it (holds session held)) = false
+forReceiver (it (tooLong session)) = false
+
+-- room for any answer
+abbrev pub answerRoom : ℕ
+answerRoom = 7
+
+-- `sound` is how many bytes the buffer for the sound has
+abbrev pub contentFaults : Receiver → ℕ → Heard → List Fault
+contentFaults r sound noFrame = []
+contentFaults r sound (it (opening session long)) = (session under r .session says otherSession) ∷ []
+contentFaults r sound (it (block session k run)) =
+    (session unlike r .session says otherSession)
+    ∷ (k + 1 over blocks (r .length) says impossible)
+    ∷ (length run unlike size (r .length) k says impossible)
+    ∷ (r .length over sound says wrongSound)
+    ∷ []
+contentFaults r sound (it (holds session held)) = []
+contentFaults r sound (it (tooLong session)) = []
+
+abbrev pub receiveFaults : Receiver → ℕ → ℕ → Heard → List Fault
+receiveFaults r sound reply h =
+    (unless (receiverInRule r) says outOfRule)
+    ∷ (unless (forReceiver h) says notAFrame)
+    ∷ (contentFaults r sound h ++ ((reply under answerRoom says noRoom) ∷ []))
+
+-- the same receiver with this transfer: session, length, blocks held
+abbrev pub taking : Receiver → ℕ → ℕ → ℕ → Receiver
+taking r session long count = record { key = r .key; pair = r .pair; session = session; length = long; count = count }
+
+-- what a frame brings about: the record and the sound afterwards, and the answer
+pub record Effect : Type 0 where
+  pub next : Receiver
+  pub sound : List ℕ
+  pub answer : Frame
+
+abbrev pub effect : Receiver → List ℕ → Frame → Effect
+effect next sound answer = record { next = next; sound = sound; answer = answer }
+
+-- nothing changes, and the count held is the answer
+abbrev pub stillHeld : Receiver → List ℕ → Effect
+stillHeld r sound = effect r sound (holds (r .session) (r .count))
+
+-- an opening of its own session is a repeat; one above it is taken if the buffer is long enough
+abbrev pub onOpening : Receiver → List ℕ → ℕ → ℕ → Effect
+onOpening r sound session long =
+    cond (eqb session (r .session)) (stillHeld r sound)
+    (cond (ltb (length sound) long) (effect r sound (tooLong session))
+    (effect (taking r session long 0) sound (holds session 0)))
+
+-- the block in turn goes to its place, and the count grows by one; any other changes nothing
+abbrev pub onBlock : Cipher → Receiver → List ℕ → ℕ → List ℕ → Effect
+onBlock cipher r sound k run =
+    cond (eqb k (r .count))
+    (effect (taking r (r .session) (r .length) (k + 1))
+    (placed sound (place k) (covered cipher (r .key) (r .pair) (r .session) k run))
+    (holds (r .session) (k + 1)))
+    (stillHeld r sound)
+
+abbrev pub onFrame : Cipher → Receiver → List ℕ → Heard → Effect
+onFrame cipher r sound noFrame = stillHeld r sound
+onFrame cipher r sound (it (opening session long)) = onOpening r sound session long
+onFrame cipher r sound (it (block session k run)) = onBlock cipher r sound k run
+onFrame cipher r sound (it (holds session held)) = stillHeld r sound
+onFrame cipher r sound (it (tooLong session)) = stillHeld r sound
+
+-- what hearing comes to: the answer, and what the two buffers hold afterwards
 pub record Received : Type 0 where
   pub answer : ReceiverAnswer
   pub sound : List ℕ
@@ -39,58 +105,11 @@ pub record Received : Type 0 where
 abbrev pub received : ReceiverAnswer → List ℕ → List ℕ → Received
 received answer sound reply = record { answer = answer; sound = sound; reply = reply }
 
--- the receiver and the two buffers before a call
-module _ (r : Receiver) (sound reply : List ℕ) where
-  abbrev pub notReceived : ℕ → Received
-  notReceived number = received (record { refusal = number; length = 0; receiver = r }) sound reply
-
-  -- this frame is the answer, and these are record and sound afterwards, if there is room for any answer
-  unfoldable pub answered : Receiver → List ℕ → Frame → Received
-  answered next after f =
-      cond (leb 7 (length reply))
-      (received (record { refusal = accepted; length = length (bytes f); receiver = next }) after (placed reply 0 (bytes f)))
-      (notReceived noRoom)
-
-  -- the answer that changes nothing: the count held
-  abbrev pub stillHeld : Received
-  stillHeld = answered r sound (holds (r .session) (r .count))
-
-  -- an opening above its own session is taken if the buffer is long enough; one of its own session is a repeat
-  unfoldable pub onOpening : ℕ → ℕ → Received
-  onOpening session long =
-      cond (ltb session (r .session)) (notReceived otherSession)
-      (cond (eqb session (r .session)) stillHeld
-      (cond (ltb (length sound) long)
-      (answered r sound (tooLong session))
-      (answered (taking r session long 0) sound (holds session 0))))
-
-  -- the block in turn goes to its place, and the count grows by one
-  abbrev pub inTurn : Cipher → List ℕ → Received
-  inTurn cipher run =
-      answered (taking r (r .session) (r .length) (r .count + 1))
-      (placed sound (place (r .count)) (covered cipher (r .key) (r .pair) (r .session) (r .count) run))
-      (holds (r .session) (r .count + 1))
-
-  unfoldable pub onBlock : Cipher → ℕ → ℕ → List ℕ → Received
-  onBlock cipher session k run =
-      cond (eqb session (r .session))
-      (cond (ltb k (blocks (r .length)) && eqb (length run) (size (r .length) k))
-      (cond (leb (r .length) (length sound))
-      (cond (eqb k (r .count)) (inTurn cipher run) stillHeld)
-      (notReceived wrongSound))
-      (notReceived impossible))
-      (notReceived otherSession)
-
-  -- Opening and Block are the frames for this end
-  unfoldable pub onFrame : Cipher → Heard → Received
-  onFrame cipher noFrame = notReceived notAFrame
-  onFrame cipher (it (opening session long)) = onOpening session long
-  onFrame cipher (it (block session k run)) = onBlock cipher session k run
-  onFrame cipher (it (holds session held)) = notReceived notAFrame
-  onFrame cipher (it (tooLong session)) = notReceived notAFrame
-
-  unfoldable pub receiving : Cipher → List ℕ → Received
-  receiving cipher frame =
-      cond (receiverInRule r)
-      (onFrame cipher (heard frame))
-      (notReceived outOfRule)
+unfoldable pub receiving : Cipher → Receiver → List ℕ → List ℕ → List ℕ → Received
+receiving cipher r sound reply frame =
+    let h = heard frame in
+    let e = onFrame cipher r sound h in
+    settled (receiveFaults r (length sound) (length reply) h)
+    (received (record { refusal = accepted; length = length (bytes (e .answer)); receiver = e .next })
+    (e .sound) (placed reply 0 (bytes (e .answer))))
+    (λ number. received (record { refusal = number; length = 0; receiver = r }) sound reply)

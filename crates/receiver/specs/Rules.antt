@@ -1,8 +1,7 @@
 -- The receivers that are in rule (27).
--- Assumes nothing.
 use mathlib.Core.Bool.{Bool, _&&_, _||_}
 use lib.Dec.{leb, eqb}
-use Rattle.frames.specs.Blocks.{longest, blocks}
+use Rattle.blocks.specs.Blocks.{longest, blocks}
 use Rattle.frames.specs.Frames.{some}
 use Rattle.receiver.specs.declared.Receiver.{Receiver}
 

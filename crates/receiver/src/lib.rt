@@ -1,13 +1,19 @@
 use frames::Told;
 ghost use mathlib.Core.Path.{_≡_};
-ghost use mathlib.Core.Bool.{true};
-ghost use Prim.Native.Nat.{_+_, _<_, _≤_};
-ghost use lib.ListN.{length};
-ghost use Rattle.octets.specs.Stream.{placed};
-ghost use Rattle.frames.specs.Blocks.{place};
-ghost use Rattle.frames.specs.Cipher.{trivium};
-ghost use Rattle.frames.specs.Frames.{holds, bytes};
-ghost use Rattle.receiver.specs.Receiver.{makingReceiver, received, onOpening, inTurn, onBlock, receiving};
+ghost use mathlib.Core.Bool.{true, false, cond};
+ghost use mathlib.Core.List.{List, [], _∷_};
+ghost use Prim.Native.Nat.{ℕ, _≤_};
+ghost use lib.ListN.{length, drop};
+ghost use Rattle.octets.specs.Buffers.{put};
+ghost use Rattle.octets.specs.Rows.{row};
+ghost use Rattle.refusals.specs.Rules.{AllRight, first};
+ghost use Rattle.trivium.specs.Keystream.{trivium};
+ghost use Rattle.blocks.specs.Blocks.{place};
+ghost use Rattle.blocks.specs.Covering.{covered};
+ghost use Rattle.frames.specs.Frames.{bytes};
+ghost use Rattle.frames.specs.Told.{told, heardAs};
+ghost use Rattle.receiver.specs.Receiver.{makingReceiver, contentFaults, receiveFaults, taking, onFrame};
+ghost use Rattle.receiver.specs.Receiver.{received, receiving};
 ghost use Rattle.receiver.specs.Rules.{receiverInRule};
 
 // `count` is how many blocks are held.
@@ -31,33 +37,141 @@ pub struct ReceiverAnswer {
     pub receiver: Receiver,
 }
 
-const BLOCK_BYTES: usize = 64;
-
-const MOST_BYTES: usize = 32768;
+// What a frame brings about, but for the sound's bytes: session, length and count afterwards, whether it is the block
+// in turn, and the answer's first byte, its session, and how many bytes of the count follow.
+struct Step {
+    session: u32,
+    length: u32,
+    count: u16,
+    in_turn: bool,
+    kind: u64,
+    named: u32,
+    width: usize,
+}
 
 // Room for any answer.
 const ANSWER_ROOM: usize = 7;
 
-const ACCEPTED: u8 = 0;
+// Whether a receiver with these numbers is in rule. `total` is the length of the sound.
+fn in_rule(session: u32, total: u32, count: u16) -> bool
+    ensures { λ r. ⌜ ((o : Receiver) → r ≡ receiverInRule (taking o session total count)) ⌝ }
+{
+    ((total as usize) <= blocks::MOST_BYTES)
+        & (((1 <= session) | ((total == 0) & (count == 0)))
+            & ((count as u32) <= blocks::block_count(total)))
+}
 
-const NO_ROOM: u8 = 19;
+// Why a receiver with these numbers can't hear a frame with so many bytes lent for the sound and for the answer, or 0.
+fn fault(session: u32, total: u32, count: u16, what: Told, sound: usize, reply: usize) -> u8
+    ensures { λ r. ⌜ ((o : Receiver) (run : List ℕ) → what ≡ told (heardAs run what)
+        → r ≡ first (receiveFaults (taking o session total count) sound reply (heardAs run what))) ⌝ }
+{
+    if !in_rule(session, total, count) {
+        return refusals::OUT_OF_RULE;
+    }
+    match what {
+        Told::Opening(named, _) => {
+            if named < session {
+                return refusals::OTHER_SESSION;
+            }
+        }
+        Told::Block(named, k, n) => {
+            if named != session {
+                return refusals::OTHER_SESSION;
+            }
+            let size = blocks::block_size(total as usize, k);
+            if size == 0 {
+                return refusals::IMPOSSIBLE;
+            }
+            if n != size {
+                return refusals::IMPOSSIBLE;
+            }
+            if sound < total as usize {
+                return refusals::WRONG_SOUND;
+            }
+        }
+        _ => {
+            return refusals::NOT_A_FRAME;
+        }
+    }
+    if reply < ANSWER_ROOM {
+        return refusals::NO_ROOM;
+    }
+    refusals::ACCEPTED
+}
 
-const WRONG_SOUND: u8 = 23;
-
-const NOT_A_FRAME: u8 = 24;
-
-const OTHER_SESSION: u8 = 25;
-
-const IMPOSSIBLE: u8 = 26;
-
-const OUT_OF_RULE: u8 = 27;
+// What a frame that isn't refused brings about with these numbers.
+fn on_frame(session: u32, total: u32, count: u16, what: Told, sound: usize) -> Step
+    requires { ⌜ ((o : Receiver) × ((receiverInRule (taking o session total count) ≡ true)
+        × ((run : List ℕ) → what ≡ told (heardAs run what)
+        → AllRight (contentFaults (taking o session total count) sound (heardAs run what))))) ⌝ }
+    ensures { λ r. ⌜ (r .width ≤ 2)
+        × ((o : Receiver) (run lent : List ℕ) → what ≡ told (heardAs run what) → length lent ≡ sound
+        → let e = onFrame trivium (taking o session total count) lent (heardAs run what) in
+        (e .next ≡ taking o (r .session) (r .length) (r .count))
+        × (e .sound ≡ cond (r .«in_turn») (put lent (place count) (covered trivium (o .key) (o .pair) session count run)) lent)
+        × (bytes (e .answer) ≡ row (1 ∷ 4 ∷ r .width ∷ []) (r .kind ∷ r .named ∷ r .count ∷ []))) ⌝ }
+{
+    // nothing changes, and the count held is the answer
+    let still_held = Step {
+        session,
+        length: total,
+        count,
+        in_turn: false,
+        kind: frames::HOLDS,
+        named: session,
+        width: 2,
+    };
+    match what {
+        Told::Opening(named, long) => {
+            if named == session {
+                return still_held;
+            }
+            if sound < long as usize {
+                return Step {
+                    session,
+                    length: total,
+                    count,
+                    in_turn: false,
+                    kind: frames::TOO_LONG,
+                    named,
+                    width: 0,
+                };
+            }
+            Step {
+                session: named,
+                length: long,
+                count: 0,
+                in_turn: false,
+                kind: frames::HOLDS,
+                named,
+                width: 2,
+            }
+        }
+        Told::Block(_, k, _) => {
+            if k != count {
+                return still_held;
+            }
+            Step {
+                session,
+                length: total,
+                count: k + 1,
+                in_turn: true,
+                kind: frames::HOLDS,
+                named: session,
+                width: 2,
+            }
+        }
+        _ => still_held,
+    }
+}
 
 impl Receiver {
     // A receiver with a key of ten bytes and a pair name of six.
     pub fn new(key: &[u8], pair: &[u8]) -> ReceiverMade
         ensures { λ r. ⌜ r ≡ makingReceiver (now (key .entry)) (now (pair .entry)) ⌝ }
     {
-        let names = frames::check_names(key, pair);
+        let names = names::check_names(key, pair);
         let own_key = names.key;
         let own_pair = names.pair;
         ReceiverMade {
@@ -72,164 +186,62 @@ impl Receiver {
         }
     }
 
-    fn in_rule(self) -> bool
-        ensures { λ r. ⌜ r ≡ receiverInRule self ⌝ }
+    // Puts the sound of the block in turn to its place. A block's bytes begin at byte 8 of its frame.
+    fn take(self, frame: &[u8], sound: &mut [u8])
+        ensures { λ _. ⌜ now (sound .exit) ≡ put (now (sound .entry)) (place (self .count))
+            (covered trivium (self .key) (self .pair) (self .session) (self .count) (drop 8 (now (frame .entry)))) ⌝ }
     {
-        let length = self.length;
-        let session = self.session;
+        let key = self.key;
+        let pair = self.pair;
         let count = self.count;
-        if MOST_BYTES < length as usize {
-            return false;
-        }
-        if session < 1 {
-            if length != 0 {
-                return false;
-            }
-            return count == 0;
-        }
-        (count as u32) <= frames::block_count(length)
+        let run = octets::slice(frame, 8, frame.len());
+        blocks::cover(
+            &key,
+            &pair,
+            self.session,
+            count,
+            run,
+            sound,
+            blocks::BLOCK_BYTES * (count as usize),
+        );
     }
 
-    fn not_received(self, number: u8) -> ReceiverAnswer
-        ensures { λ r. ⌜ r ≡ record { refusal = number; length = 0; receiver = self } ⌝ }
+    // Hears a frame of the sender, and writes the answer frame. Only a block in turn writes to the sound, and only its
+    // own bytes.
+    pub fn hear(self, frame: &[u8], sound: &mut [u8], answer: &mut [u8]) -> ReceiverAnswer
+        ensures { λ r. ⌜ received r (now (sound .exit)) (now (answer .exit))
+            ≡ receiving trivium self (now (sound .entry)) (now (answer .entry)) (now (frame .entry)) ⌝ }
     {
-        ReceiverAnswer {
-            refusal: number,
-            length: 0,
-            receiver: self,
-        }
-    }
-
-    // Answers the count held.
-    fn holding(self, answer: &mut [u8]) -> ReceiverAnswer
-        requires { ⌜ 7 ≤ length (now answer) ⌝ }
-        ensures { λ r. ⌜ (r ≡ record { refusal = 0; length = 7; receiver = self })
-            × (now (answer .exit) ≡ placed (now (answer .entry)) 0 (bytes (holds (self .session) (self .count)))) ⌝ }
-    {
-        let session = self.session;
-        let count = self.count;
-        frames::write_holds(answer, session, count);
-        ReceiverAnswer {
-            refusal: ACCEPTED,
-            length: 7,
-            receiver: self,
-        }
-    }
-
-    // An opening of a lower session is late, one of its own is a repeat, and one above it begins anew.
-    fn on_opening(
-        self,
-        session: u32,
-        length: u32,
-        sound: &[u8],
-        answer: &mut [u8],
-    ) -> ReceiverAnswer
-        ensures { λ r. ⌜ received r (now (sound .entry)) (now (answer .exit))
-            ≡ onOpening self (now (sound .entry)) (now (answer .entry)) session length ⌝ }
-    {
-        let own = self.session;
-        if session < own {
-            return self.not_received(OTHER_SESSION);
-        }
-        if answer.len() < ANSWER_ROOM {
-            return self.not_received(NO_ROOM);
-        }
-        if session == own {
-            return self.holding(answer);
-        }
-        if sound.len() < length as usize {
-            frames::write_too_long(answer, session);
+        let told = frames::read(frame);
+        let lent = sound.len();
+        let refusal = fault(
+            self.session,
+            self.length,
+            self.count,
+            told,
+            lent,
+            answer.len(),
+        );
+        if refusal != refusals::ACCEPTED {
             return ReceiverAnswer {
-                refusal: ACCEPTED,
-                length: 5,
+                refusal,
+                length: 0,
                 receiver: self,
             };
         }
-        let key = self.key;
-        let pair = self.pair;
-        let next = Receiver {
-            key,
-            pair,
-            session,
-            length,
-            count: 0,
-        };
-        next.holding(answer)
-    }
-
-    // The block in turn goes to its place, and the count grows by one.
-    fn take_block(self, run: &[u8], sound: &mut [u8], answer: &mut [u8]) -> ReceiverAnswer
-        requires { ⌜ (place (self .count) + length (now run) ≤ length (now sound)) × (self .count < 512) × (7 ≤ length (now answer)) ⌝ }
-        ensures { λ r. ⌜ received r (now (sound .exit)) (now (answer .exit))
-            ≡ inTurn self (now (sound .entry)) (now (answer .entry)) trivium (now (run .entry)) ⌝ }
-    {
-        let key = self.key;
-        let pair = self.pair;
-        let session = self.session;
-        let count = self.count;
-        let at = BLOCK_BYTES * (count as usize);
-        frames::cover(&key, &pair, session, count, run, sound, at);
-        let next = Receiver {
-            key,
-            pair,
-            session,
-            length: self.length,
-            count: count + 1,
-        };
-        next.holding(answer)
-    }
-
-    fn on_block(
-        self,
-        session: u32,
-        k: u16,
-        run: &[u8],
-        sound: &mut [u8],
-        answer: &mut [u8],
-    ) -> ReceiverAnswer
-        requires { ⌜ receiverInRule self ≡ true ⌝ }
-        ensures { λ r. ⌜ received r (now (sound .exit)) (now (answer .exit))
-            ≡ onBlock self (now (sound .entry)) (now (answer .entry)) trivium session k (now (run .entry)) ⌝ }
-    {
-        let own = self.session;
-        let length = self.length;
-        let count = self.count;
-        if session != own {
-            return self.not_received(OTHER_SESSION);
+        let step = on_frame(self.session, self.length, self.count, told, lent);
+        frames::write_short(answer, step.kind, step.named, step.width, step.count as u64);
+        if step.in_turn {
+            self.take(frame, sound);
         }
-        if frames::block_count(length) <= k as u32 {
-            return self.not_received(IMPOSSIBLE);
-        }
-        if run.len() != frames::block_size(length as usize, k) {
-            return self.not_received(IMPOSSIBLE);
-        }
-        if sound.len() < length as usize {
-            return self.not_received(WRONG_SOUND);
-        }
-        if answer.len() < ANSWER_ROOM {
-            return self.not_received(NO_ROOM);
-        }
-        if k != count {
-            return self.holding(answer);
-        }
-        self.take_block(run, sound, answer)
-    }
-
-    // Hears a frame of the sender, and writes the answer frame. Only a block in turn writes to the sound, and only its own bytes.
-    pub fn hear(self, frame: &[u8], sound: &mut [u8], answer: &mut [u8]) -> ReceiverAnswer
-        ensures { λ r. ⌜ received r (now (sound .exit)) (now (answer .exit))
-            ≡ receiving self (now (sound .entry)) (now (answer .entry)) trivium (now (frame .entry)) ⌝ }
-    {
-        if !self.in_rule() {
-            return self.not_received(OUT_OF_RULE);
-        }
-        let told = frames::read(frame);
-        match told {
-            Told::Nothing => self.not_received(NOT_A_FRAME),
-            Told::Opening(session, length) => self.on_opening(session, length, sound, answer),
-            Told::Block(session, k) => self.on_block(session, k, &frame[8..], sound, answer),
-            Told::Holds(_, _) => self.not_received(NOT_A_FRAME),
-            Told::TooLong(_) => self.not_received(NOT_A_FRAME),
+        let mut next = self;
+        next.session = step.session;
+        next.length = step.length;
+        next.count = step.count;
+        ReceiverAnswer {
+            refusal: refusals::ACCEPTED,
+            length: 5 + step.width,
+            receiver: next,
         }
     }
 }

@@ -1,2 +1,2 @@
-pub mod Laws
-pub mod Theorems
+pub mod FourWords
+pub mod Words

@@ -1,13 +1,8 @@
 -- A sample as two bytes: a signed word of 16 bits, the most significant byte first.
--- Assumes nothing.
-use Prim.Native.Nat.{ℕ, _-_, _*_, _/_}
-use mathlib.Core.Bool.{cond}
-use mathlib.Core.List.{List, [], _∷_, _++_, reverse}
-use lib.Dec.{leb, ltb}
-use lib.IntN.{ℤ, pos, negsuc}
-use lib.ListN.{length}
+use Prim.Native.Nat.{ℕ, _-_}
+use mathlib.Core.{Bool.cond, List.List, List.[], List._∷_, List._++_, List.reverse}
+use lib.{Dec.ltb, IntN.ℤ, IntN.pos, IntN.negsuc}
 use Rattle.octets.specs.Digits.{number, digits}
-use Rattle.octets.specs.Stream.{placed}
 
 -- the signed number that 16 bits stand for: from 32,768 on, it is less by 65,536
 unfoldable pub signed : ℕ → ℤ
@@ -40,10 +35,3 @@ wordsOf (upper ∷ lower ∷ bytes) = wordOf upper lower ∷ wordsOf bytes
 unfoldable pub bytesOfAll : List ℤ → List ℕ
 bytesOfAll [] = []
 bytesOfAll (z ∷ zs) = bytesOf z ++ bytesOfAll zs
-
--- what a lent run holds after bytes were read into it as samples, or samples written into it as bytes: unchanged where they have no room
-unfoldable pub wordsRead : List ℕ → List ℤ → List ℤ
-wordsRead bytes output = cond (leb (length bytes / 2) (length output)) (placed output 0 (wordsOf bytes)) output
-
-unfoldable pub wordsWritten : List ℤ → List ℕ → List ℕ
-wordsWritten samples output = cond (leb (2 * length samples) (length output)) (placed output 0 (bytesOfAll samples)) output

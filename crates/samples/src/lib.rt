@@ -1,7 +1,7 @@
 ghost use mathlib.Core.Path.{_≡_};
 ghost use mathlib.Core.List.{reverse};
 ghost use Rattle.octets.specs.Digits.{number, digits};
-ghost use Rattle.samples.specs.Words.{signed, wordOf, unsigned, turned, wordsRead, wordsWritten};
+ghost use Rattle.samples.specs.Words.{signed, wordOf, unsigned, turned};
 
 // The sample that 16 bits stand for.
 pub fn sample(n: u16) -> i16
@@ -47,8 +47,9 @@ fn swapped(word: u64) -> u64
     upper * 4294967296 + lower
 }
 
-// The four samples of a word in the other order: all bytes change places, and then those of each pair once more. Written so, the
-// compiler stores and loads four samples at once; it does not if each is taken out of the word by itself.
+// The four samples of a word in the other order: all bytes change places, and then those of each pair once more.
+// Written so, the compiler stores and loads four samples at once; it does not if each is taken out of the word by
+// itself.
 pub fn turned(word: u64) -> u64
     ensures { λ r. ⌜ r ≡ turned word ⌝ }
 {
@@ -56,36 +57,4 @@ pub fn turned(word: u64) -> u64
     let even = swapped & 0x00ff00ff00ff00ff;
     let odd = (swapped >> 8) & 0x00ff00ff00ff00ff;
     even * 256 + odd
-}
-
-// Reads all whole words of the bytes to the front of the output, if they have room there.
-pub fn read_words(bytes: &[u8], output: &mut [i16])
-    ensures { λ _. ⌜ now (output .exit) ≡ wordsRead (now (bytes .entry)) (now (output .entry)) ⌝ }
-{
-    let n = bytes.len() / 2;
-    if output.len() < n {
-        return;
-    }
-    let mut i = 0;
-    while i < n {
-        output[i] = word(bytes[2 * i], bytes[2 * i + 1]);
-        i += 1;
-    }
-}
-
-// Writes the samples' bytes to the front of the output, if they have room there.
-pub fn write_words(samples: &[i16], output: &mut [u8])
-    ensures { λ _. ⌜ now (output .exit) ≡ wordsWritten (now (samples .entry)) (now (output .entry)) ⌝ }
-{
-    let n = samples.len();
-    if output.len() / 2 < n {
-        return;
-    }
-    let mut i = 0;
-    while i < n {
-        let number = bits(samples[i]);
-        output[2 * i] = (number / 256) as u8;
-        output[2 * i + 1] = (number % 256) as u8;
-        i += 1;
-    }
 }

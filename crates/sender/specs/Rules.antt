@@ -1,13 +1,11 @@
 -- The senders that are in rule (27).
--- Assumes nothing.
 use Prim.Native.Nat.{ℕ}
 use mathlib.Core.Bool.{Bool, true, _&&_}
 use lib.Dec.{leb, ltb}
-use Rattle.frames.specs.Blocks.{longest, blocks}
+use Rattle.blocks.specs.Blocks.{longest, blocks}
 use Rattle.frames.specs.Frames.{some}
-use Rattle.sender.specs.declared.Phase.{Phase}
+use Rattle.sender.specs.{declared.Phase.Phase, declared.Sender.Sender}
 use Rattle.sender.specs.declared.Phase.the-variants.{Idle, Opening, Sending, Done, Refused}
-use Rattle.sender.specs.declared.Sender.{Sender}
 
 -- what a phase asks of session and length: one that isn't idle has a session, and what is known to be held isn't all
 unfoldable pub phaseInRule : ℕ → ℕ → Phase → Bool

@@ -1,12 +1,17 @@
 use frames::Told;
 ghost use mathlib.Core.Path.{_≡_};
-ghost use Prim.Native.Nat.{_<_};
-ghost use Rattle.octets.specs.Outcome.{outcome};
-ghost use Rattle.frames.specs.Blocks.{blocks};
-ghost use Rattle.frames.specs.Cipher.{trivium};
-ghost use Rattle.frames.specs.Frames.{opening};
+ghost use mathlib.Core.List.{List};
+ghost use mathlib.Core.Bool.{cond, not};
+ghost use Rattle.refusals.specs.Numbers.{accepted, noTransfer, outOfRule};
+ghost use Prim.Native.Nat.{ℕ};
+ghost use lib.ListN.{length};
+ghost use Rattle.refusals.specs.Outcome.{outcome};
+ghost use Rattle.refusals.specs.Rules.{first};
+ghost use Rattle.trivium.specs.Keystream.{trivium};
 ghost use Rattle.sender.specs.Rules.{senderInRule};
-ghost use Rattle.sender.specs.Sender.{refused, agreed, turned, knowing, makingSender, beginning, sent, blockFrame, sending, onHolds, onTooLong, hearing};
+ghost use Rattle.frames.specs.Told.{heardAs};
+ghost use Rattle.sender.specs.Sender.{inPhase, underWay, newCount, makingSender, beginning};
+ghost use Rattle.sender.specs.Sender.{dueIn, sending, hearFaults, informed, hearing};
 
 // Why a sender's transfer was refused by the other end.
 pub enum Reason {
@@ -42,38 +47,46 @@ pub struct Sent {
     pub sender: Sender,
 }
 
-const BLOCK_BYTES: usize = 64;
-
-const MOST_BYTES: usize = 32768;
+// What a record's phase says: whether the record is in rule, whether a transfer is under way, the count of blocks that
+// would be news, and how many bytes are due.
+struct Stage {
+    in_rule: bool,
+    under_way: bool,
+    new_count: u32,
+    due: usize,
+}
 
 const LAST_SESSION: u32 = 4294967295;
 
-const ACCEPTED: u8 = 0;
-
-const NO_ROOM: u8 = 19;
-
-const NO_SESSION: u8 = 20;
-
-const LONG_SOUND: u8 = 21;
-
-const NO_TRANSFER: u8 = 22;
-
-const WRONG_SOUND: u8 = 23;
-
-const NOT_A_FRAME: u8 = 24;
-
-const OTHER_SESSION: u8 = 25;
-
-const IMPOSSIBLE: u8 = 26;
-
-const OUT_OF_RULE: u8 = 27;
+// The number of the first broken rule of a call that asks for a transfer under way and has two rules more, or 0.
+// `third` and `fourth` say whether those are broken, and `c` and `d` are their numbers.
+fn transfer_fault(stage: Stage, third: bool, c: u8, fourth: bool, d: u8) -> u8
+    ensures { λ r. ⌜ r ≡ cond (not (stage .«in_rule»)) outOfRule (cond (not (stage .«under_way»)) noTransfer
+        (cond third c (cond fourth d accepted))) ⌝ }
+{
+    let in_rule = stage.in_rule;
+    if !in_rule {
+        return refusals::OUT_OF_RULE;
+    }
+    let under_way = stage.under_way;
+    if !under_way {
+        return refusals::NO_TRANSFER;
+    }
+    if third {
+        return c;
+    }
+    if fourth {
+        return d;
+    }
+    refusals::ACCEPTED
+}
 
 impl Sender {
     // A sender with a key of ten bytes and a pair name of six.
     pub fn new(key: &[u8], pair: &[u8]) -> SenderAnswer
         ensures { λ r. ⌜ r ≡ makingSender (now (key .entry)) (now (pair .entry)) ⌝ }
     {
-        let names = frames::check_names(key, pair);
+        let names = names::check_names(key, pair);
         let own_key = names.key;
         let own_pair = names.pair;
         SenderAnswer {
@@ -88,86 +101,74 @@ impl Sender {
         }
     }
 
-    fn in_rule(self) -> bool
-        ensures { λ r. ⌜ r ≡ senderInRule self ⌝ }
+    fn stage(self) -> Stage
+        ensures { λ r. ⌜ (r .«in_rule» ≡ senderInRule self) × (r .«under_way» ≡ underWay (self .phase))
+            × (r .«new_count» ≡ newCount (self .phase))
+            × ((sound : List ℕ) → length sound ≡ self .length → r .due ≡ length (dueIn trivium self sound (self .phase))) ⌝ }
     {
         let length = self.length;
         let session = self.session;
         let phase = self.phase;
-        if MOST_BYTES < length as usize {
-            return false;
-        }
+        let begun = 1 <= session;
+        let short = (length as usize) <= blocks::MOST_BYTES;
         match phase {
-            Phase::Idle => true,
-            Phase::Opening => 1 <= session,
-            Phase::Sending(known) => {
-                if session < 1 {
-                    return false;
-                }
-                (known as u32) < frames::block_count(length)
-            }
-            Phase::Done => 1 <= session,
-            Phase::Refused(_) => 1 <= session,
-        }
-    }
-
-    fn refused(self, number: u8) -> SenderAnswer
-        ensures { λ r. ⌜ r ≡ refused number self ⌝ }
-    {
-        SenderAnswer {
-            refusal: number,
-            sender: self,
-        }
-    }
-
-    // The same sender in another phase.
-    fn turned(self, phase: Phase) -> SenderAnswer
-        ensures { λ r. ⌜ r ≡ agreed (turned self phase) ⌝ }
-    {
-        let key = self.key;
-        let pair = self.pair;
-        SenderAnswer {
-            refusal: ACCEPTED,
-            sender: Sender {
-                key,
-                pair,
-                session: self.session,
-                length: self.length,
-                phase,
+            Phase::Idle => Stage {
+                in_rule: short,
+                under_way: false,
+                new_count: 0,
+                due: 0,
+            },
+            Phase::Opening => Stage {
+                in_rule: short & begun,
+                under_way: true,
+                new_count: 0,
+                due: 9,
+            },
+            Phase::Sending(known) => Stage {
+                in_rule: short & (begun & ((known as u32) < blocks::block_count(length))),
+                under_way: true,
+                new_count: (known as u32) + 1,
+                due: 8 + blocks::block_size(length as usize, known),
+            },
+            _ => Stage {
+                in_rule: short & begun,
+                under_way: false,
+                new_count: 0,
+                due: 0,
             },
         }
-    }
-
-    // The same sender, knowing that so many blocks are held.
-    fn knowing(self, count: u16) -> SenderAnswer
-        ensures { λ r. ⌜ r ≡ agreed (knowing self count) ⌝ }
-    {
-        let length = self.length;
-        if (count as u32) < frames::block_count(length) {
-            return self.turned(Phase::Sending(count));
-        }
-        self.turned(Phase::Done)
     }
 
     // Begins a transfer of this sound, of which only the length counts here.
     pub fn begin(self, sound: &[u8]) -> SenderAnswer
         ensures { λ r. ⌜ r ≡ beginning self (now (sound .entry)) ⌝ }
     {
-        if !self.in_rule() {
-            return self.refused(OUT_OF_RULE);
+        let stage = self.stage();
+        let in_rule = stage.in_rule;
+        if !in_rule {
+            return SenderAnswer {
+                refusal: refusals::OUT_OF_RULE,
+                sender: self,
+            };
         }
         let n = sound.len();
-        if MOST_BYTES < n {
-            return self.refused(LONG_SOUND);
+        if blocks::MOST_BYTES < n {
+            return SenderAnswer {
+                refusal: refusals::LONG_SOUND,
+                sender: self,
+            };
         }
         let session = self.session;
         if session == LAST_SESSION {
-            return self.refused(NO_SESSION);
+            return SenderAnswer {
+                refusal: refusals::NO_SESSION,
+                sender: self,
+            };
         }
         let key = self.key;
         let pair = self.pair;
         SenderAnswer {
-            refusal: ACCEPTED,
+            refusal: refusals::ACCEPTED,
             sender: Sender {
                 key,
                 pair,
@@ -178,142 +179,92 @@ impl Sender {
         }
     }
 
-    fn not_sent(self, number: u8) -> Sent
-        ensures { λ r. ⌜ r ≡ record { refusal = number; length = 0; sender = self } ⌝ }
-    {
-        Sent {
-            refusal: number,
-            length: 0,
-            sender: self,
-        }
-    }
-
-    fn send_opening(self, sound: &[u8], frame: &mut [u8]) -> Sent
-        ensures { λ r. ⌜ outcome r (now (frame .exit))
-            ≡ sent self (now (sound .entry)) (now (frame .entry)) (opening (self .session) (self .length)) ⌝ }
-    {
-        let session = self.session;
-        let length = self.length;
-        if sound.len() != length as usize {
-            return self.not_sent(WRONG_SOUND);
-        }
-        if frame.len() < 9 {
-            return self.not_sent(NO_ROOM);
-        }
-        frames::write_opening(frame, session, length);
-        Sent {
-            refusal: ACCEPTED,
-            length: 9,
-            sender: self,
-        }
-    }
-
-    fn send_block(self, known: u16, sound: &[u8], frame: &mut [u8]) -> Sent
-        requires { ⌜ known < blocks (self .length) ⌝ }
-        ensures { λ r. ⌜ outcome r (now (frame .exit))
-            ≡ sent self (now (sound .entry)) (now (frame .entry)) (blockFrame trivium self (now (sound .entry)) known) ⌝ }
-    {
-        let session = self.session;
-        let length = self.length;
-        if sound.len() != length as usize {
-            return self.not_sent(WRONG_SOUND);
-        }
-        let at = BLOCK_BYTES * (known as usize);
-        let n = frames::block_size(length as usize, known);
-        if frame.len() < 8 + n {
-            return self.not_sent(NO_ROOM);
-        }
-        let key = self.key;
-        let pair = self.pair;
-        frames::write_block(&key, &pair, session, known, &sound[at..at + n], frame);
-        Sent {
-            refusal: ACCEPTED,
-            length: 8 + n,
-            sender: self,
-        }
-    }
-
     // Writes the opening frame, or block number "known", of a sound lent anew. The record doesn't change.
     pub fn send(self, sound: &[u8], frame: &mut [u8]) -> Sent
         ensures { λ r. ⌜ outcome r (now (frame .exit)) ≡ sending trivium self (now (sound .entry)) (now (frame .entry)) ⌝ }
     {
-        if !self.in_rule() {
-            return self.not_sent(OUT_OF_RULE);
+        let stage = self.stage();
+        let refusal = transfer_fault(
+            stage,
+            sound.len() != self.length as usize,
+            refusals::WRONG_SOUND,
+            frame.len() < stage.due,
+            refusals::NO_ROOM,
+        );
+        if refusal != refusals::ACCEPTED {
+            return Sent {
+                refusal,
+                length: 0,
+                sender: self,
+            };
         }
-        let phase = self.phase;
-        match phase {
-            Phase::Idle => self.not_sent(NO_TRANSFER),
-            Phase::Opening => self.send_opening(sound, frame),
-            Phase::Sending(known) => self.send_block(known, sound, frame),
-            Phase::Done => self.not_sent(NO_TRANSFER),
-            Phase::Refused(_) => self.not_sent(NO_TRANSFER),
+        let session = self.session;
+        let new_count = stage.new_count;
+        if new_count == 0 {
+            frames::write_short(frame, frames::OPENING, session, 4, self.length as u64);
+        } else {
+            let known = (new_count - 1) as u16;
+            let key = self.key;
+            let pair = self.pair;
+            frames::write_block(&key, &pair, session, known, sound, frame);
         }
-    }
-
-    fn on_holds_opening(self, session: u32, held: u16) -> SenderAnswer
-        ensures { λ r. ⌜ r ≡ onHolds self session held Phase.Opening ⌝ }
-    {
-        let own = self.session;
-        if session != own {
-            return self.refused(OTHER_SESSION);
-        }
-        if held != 0 {
-            return self.refused(IMPOSSIBLE);
-        }
-        self.knowing(0)
-    }
-
-    fn on_holds_sending(self, session: u32, held: u16, known: u16) -> SenderAnswer
-        ensures { λ r. ⌜ r ≡ onHolds self session held (Phase.Sending known) ⌝ }
-    {
-        let own = self.session;
-        if session != own {
-            return self.refused(OTHER_SESSION);
-        }
-        if held <= known {
-            return self.refused(ACCEPTED);
-        }
-        if held - known != 1 {
-            return self.refused(IMPOSSIBLE);
-        }
-        self.knowing(held)
-    }
-
-    fn on_holds(self, session: u32, held: u16) -> SenderAnswer
-        ensures { λ r. ⌜ r ≡ onHolds self session held (self .phase) ⌝ }
-    {
-        let phase = self.phase;
-        match phase {
-            Phase::Idle => self.refused(NO_TRANSFER),
-            Phase::Opening => self.on_holds_opening(session, held),
-            Phase::Sending(known) => self.on_holds_sending(session, held, known),
-            Phase::Done => self.refused(NO_TRANSFER),
-            Phase::Refused(_) => self.refused(NO_TRANSFER),
+        Sent {
+            refusal: refusals::ACCEPTED,
+            length: stage.due,
+            sender: self,
         }
     }
 
-    // Too long ends a transfer that is being opened, and no other.
-    fn on_too_long(self, session: u32) -> SenderAnswer
-        ensures { λ r. ⌜ r ≡ onTooLong self session (self .phase) ⌝ }
+    // Why a frame can't be heard now, or 0.
+    fn hear_fault(self, what: Told) -> u8
+        ensures { λ r. ⌜ ((run : List ℕ) → r ≡ first (hearFaults self (heardAs run what))) ⌝ }
     {
-        let own = self.session;
-        let phase = self.phase;
-        match phase {
-            Phase::Idle => self.refused(NO_TRANSFER),
-            Phase::Opening => {
-                if session != own {
-                    return self.refused(OTHER_SESSION);
+        let stage = self.stage();
+        match what {
+            Told::Holds(session, held) => transfer_fault(
+                stage,
+                session != self.session,
+                refusals::OTHER_SESSION,
+                stage.new_count < held as u32,
+                refusals::IMPOSSIBLE,
+            ),
+            Told::TooLong(session) => transfer_fault(
+                stage,
+                session != self.session,
+                refusals::OTHER_SESSION,
+                0 < stage.new_count,
+                refusals::IMPOSSIBLE,
+            ),
+            _ => {
+                let in_rule = stage.in_rule;
+                if !in_rule {
+                    return refusals::OUT_OF_RULE;
                 }
-                self.turned(Phase::Refused(Reason::TooLong))
+                refusals::NOT_A_FRAME
             }
-            Phase::Sending(_) => {
-                if session != own {
-                    return self.refused(OTHER_SESSION);
+        }
+    }
+
+    // The phase once a frame was heard: Holds of the new count is news, and less is old news.
+    fn informed(self, what: Told) -> Phase
+        ensures { λ r. ⌜ ((run : List ℕ) → inPhase self r ≡ informed self (heardAs run what)) ⌝ }
+    {
+        let stage = self.stage();
+        let new_count = stage.new_count;
+        let length = self.length;
+        match what {
+            Told::Holds(_, held) => {
+                let count = held as u32;
+                if count < new_count {
+                    return self.phase;
                 }
-                self.refused(IMPOSSIBLE)
+                if count < blocks::block_count(length) {
+                    return Phase::Sending(held);
+                }
+                Phase::Done
             }
-            Phase::Done => self.refused(NO_TRANSFER),
-            Phase::Refused(_) => self.refused(NO_TRANSFER),
+            Told::TooLong(_) => Phase::Refused(Reason::TooLong),
+            _ => self.phase,
         }
     }
 
@@ -321,16 +272,26 @@ impl Sender {
     pub fn hear(self, frame: &[u8]) -> SenderAnswer
         ensures { λ r. ⌜ r ≡ hearing self (now (frame .entry)) ⌝ }
     {
-        if !self.in_rule() {
-            return self.refused(OUT_OF_RULE);
-        }
         let told = frames::read(frame);
-        match told {
-            Told::Nothing => self.refused(NOT_A_FRAME),
-            Told::Opening(_, _) => self.refused(NOT_A_FRAME),
-            Told::Block(_, _) => self.refused(NOT_A_FRAME),
-            Told::Holds(session, held) => self.on_holds(session, held),
-            Told::TooLong(session) => self.on_too_long(session),
+        let refusal = self.hear_fault(told);
+        if refusal != refusals::ACCEPTED {
+            return SenderAnswer {
+                refusal,
+                sender: self,
+            };
+        }
+        let phase = self.informed(told);
+        let key = self.key;
+        let pair = self.pair;
+        SenderAnswer {
+            refusal: refusals::ACCEPTED,
+            sender: Sender {
+                key,
+                pair,
+                session: self.session,
+                length: self.length,
+                phase,
+            },
         }
     }
 }

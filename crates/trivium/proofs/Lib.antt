@@ -1,5 +1,3 @@
 pub mod Bytes
-pub mod Loading
 pub mod Steps
 pub mod Theorems
-pub mod Words

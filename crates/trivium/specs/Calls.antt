@@ -1,44 +1,41 @@
 -- What each public call owes: its answer, and what a lent buffer holds afterwards, for every input.
--- Assumes nothing.
 use Prim.Native.Nat.{ℕ, _*_, _%_, _^_}
-use mathlib.Core.Bool.{cond}
-use mathlib.Core.List.{List}
-use lib.Dec.{eqb, ltb}
+use mathlib.Core.List.{List, [], _∷_}
 use lib.ListN.{length}
-use Rattle.octets.specs.Digits.{number}
-use Rattle.octets.specs.Outcome.{Outcome, outcome}
-use Rattle.octets.specs.Refusals.{accepted, badKey, badValue, noRoom}
-use Rattle.octets.specs.Stream.{enciphered, placed}
-use Rattle.trivium.specs.Registers.{State, outputBit, next, steps, started}
-use Rattle.trivium.specs.Keystream.{bits, keystream}
-use Rattle.trivium.specs.Record.{state, packed}
-use Rattle.trivium.specs.declared.Enciphered.{Enciphered}
-use Rattle.trivium.specs.declared.Made.{Made}
-use Rattle.trivium.specs.declared.Ran.{Ran}
-use Rattle.trivium.specs.declared.Registers.{Registers}
-use Rattle.trivium.specs.declared.Running.{Running}
-use Rattle.trivium.specs.declared.Stepped.{Stepped}
-use Rattle.trivium.specs.declared.Strode.{Strode}
+use Rattle.octets.specs.{Buffers.slice, Buffers.placed, Digits.number, Stream.enciphered}
+use Rattle.refusals.specs.Numbers.{accepted, badKey, badValue, noRoom}
+use Rattle.refusals.specs.Outcome.{Outcome, outcome}
+use Rattle.refusals.specs.Rules.{Fault, _over_, _unlike_, _says_, settled}
+use Rattle.taps.specs.Keystream.{bits, keystream, trivium}
+use Rattle.taps.specs.Registers.{State, outputBit, next, steps, started}
+use Rattle.trivium.specs.{Record.state, Record.packed, declared.Enciphered.Enciphered, declared.Made.Made}
+use Rattle.trivium.specs.{declared.Ran.Ran, declared.Registers.Registers, declared.Running.Running}
+use Rattle.trivium.specs.{declared.Stepped.Stepped, declared.Strode.Strode}
 
 abbrev pub refusedMaking : ℕ → Made
-refusedMaking number = record { refusal = number; registers = record { a1 = 0; a0 = 0; b1 = 0; b0 = 0; c1 = 0; c0 = 0 } }
+refusedMaking number =
+    record { refusal = number; registers = record { a1 = 0; a0 = 0; b1 = 0; b0 = 0; c1 = 0; c0 = 0 } }
 
--- making: 1, then 2
-unfoldable pub making : List ℕ → List ℕ → Made
-making key iv =
-    cond (eqb (length key) 10)
-    (cond (eqb (length iv) 10)
-    (record { refusal = accepted; registers = packed (started key iv) })
-    (refusedMaking badValue))
-    (refusedMaking badKey)
+abbrev pub makeFaults : List ℕ → List ℕ → List Fault
+makeFaults key iv =
+    (length key unlike trivium .keyBytes says badKey)
+    ∷ (length iv unlike trivium .valueBytes says badValue)
+    ∷ []
+
+unfoldable pub makingCipher : List ℕ → List ℕ → Made
+makingCipher key iv =
+    settled (makeFaults key iv) (record { refusal = accepted; registers = packed (started key iv) }) refusedMaking
 
 -- one bit, the plain reading
 unfoldable pub stepping : Registers → Stepped
 stepping r = record { bit = outputBit (state r); next = packed (next (state r)) }
 
--- 64 bits, the first of them the word's most significant
+-- n bits, the first of them the most significant, and n steps; 64 are a stride
+abbrev pub strides : ℕ → Registers → Strode
+strides n r = record { word = number 2 (bits n (state r)); next = packed (steps n (state r)) }
+
 unfoldable pub striding : Registers → Strode
-striding r = record { word = number 2 (bits 64 (state r)); next = packed (steps 64 (state r)) }
+striding r = strides 64 r
 
 -- 64 bits in a run of strides: a register's upper word is, whole, what was its newest word
 unfoldable pub running : Running → Ran
@@ -65,11 +62,18 @@ running w =
 unfoldable pub skipping : Registers → ℕ → Registers
 skipping r bytes = packed (steps (8 * bytes) (state r))
 
--- enciphering: 19; else the bytes under the keystream, at the front of the output
+-- n bytes from `at` under the keystream, in their place in the output
+abbrev pub partEnciphered : Registers → List ℕ → List ℕ → ℕ → ℕ → List ℕ
+partEnciphered r input output at n = placed output at (enciphered (keystream (state r)) (slice input at n))
+
+abbrev pub encipherFaults : List ℕ → List ℕ → List Fault
+encipherFaults input output = (length input over length output says noRoom) ∷ []
+
+-- the bytes under the keystream, at the front of the output
 unfoldable pub enciphering : Registers → List ℕ → List ℕ → Outcome Enciphered ℕ
 enciphering r input output =
-    cond (ltb (length output) (length input))
-    (outcome (record { refusal = noRoom; next = r }) output)
+    settled (encipherFaults input output)
     (outcome
     (record { refusal = accepted; next = skipping r (length input) })
     (placed output 0 (enciphered (keystream (state r)) input)))
+    (λ number. outcome (record { refusal = number; next = r }) output)

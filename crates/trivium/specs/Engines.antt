@@ -1,9 +1,7 @@
 -- The plain engine, one bit a step, many times over on the record itself.
--- Assumes nothing.
 use Prim.Native.Nat.{ℕ, zero, suc}
 use mathlib.Core.List.{List, [], _∷_}
-use Rattle.trivium.specs.Calls.{stepping}
-use Rattle.trivium.specs.declared.Registers.{Registers}
+use Rattle.trivium.specs.{Calls.stepping, declared.Registers.Registers}
 
 unfoldable pub plainly : ℕ → Registers → Registers
 plainly zero r = r

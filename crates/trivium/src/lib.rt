@@ -1,16 +1,15 @@
 ghost use mathlib.Core.Path.{_≡_};
-ghost use Prim.Native.Nat.{_+_, _*_, _%_, _^_, _<_, _≤_};
-ghost use lib.Bits.{bitXor};
+ghost use Prim.Native.Nat.{_+_, _*_, _<_, _≤_};
 ghost use lib.ListN.{length};
-ghost use Rattle.octets.specs.Digits.{number, slice, numberAt};
-ghost use Rattle.octets.specs.Outcome.{outcome};
-ghost use Rattle.octets.specs.Stream.{enciphered, placed, numberPlaced};
-ghost use Rattle.trivium.specs.Calls.{refusedMaking, making, stepping, striding, running, skipping, enciphering};
-ghost use Rattle.trivium.specs.Keystream.{bits, keystream};
+ghost use Rattle.refusals.specs.Outcome.{outcome};
+ghost use Rattle.taps.specs.Registers.{steps, loaded, warmUp};
+ghost use Rattle.taps.specs.Words.{newest};
+ghost use Rattle.trivium.specs.Calls.{refusedMaking, makingCipher, stepping, strides, striding, running};
+ghost use Rattle.trivium.specs.Calls.{skipping, partEnciphered, enciphering};
 ghost use Rattle.trivium.specs.Record.{state, packed};
-ghost use Rattle.trivium.specs.Registers.{steps, loaded, warmUp};
 
-// The 288 bits: a register's upper bits stand in its word 1 and its 64 newest in its word 0, the newest of all as the lowest bit.
+// The 288 bits: a register's upper bits stand in its word 1 and its 64 newest in its word 0, the newest of all as the
+// lowest bit.
 pub struct Registers {
     pub a1: u64,
     pub a0: u64,
@@ -36,8 +35,9 @@ pub struct Strode {
     pub next: Registers,
 }
 
-// Registers in a run of strides. A stride here moves whole words and clears nothing, so a register's word 1 goes on holding bits
-// that the cipher is done with. This is no cipher record: the calls on `Registers` ignore such bits and, unless they refuse, hand none back.
+// Registers in a run of strides. A stride here moves whole words and clears nothing, so a register's word 1 goes on
+// holding bits that the cipher is done with. This is no cipher record: the calls on `Registers` ignore such bits and,
+// unless they refuse, hand none back.
 pub struct Running {
     pub registers: Registers,
 }
@@ -52,27 +52,11 @@ pub struct Enciphered {
     pub next: Registers,
 }
 
-// What 64 steps put out, and what they push into each register, the first bit of each as the most significant.
-struct Ahead {
-    z: u64,
-    a: u64,
-    b: u64,
-    c: u64,
-}
+pub const KEY_BYTES: usize = 10;
 
-const KEY_BYTES: usize = 10;
-
-const VALUE_BYTES: usize = 10;
+pub const VALUE_BYTES: usize = 10;
 
 const WARM_UP: usize = 1152;
-
-const ACCEPTED: u8 = 0;
-
-const BAD_KEY: u8 = 1;
-
-const BAD_VALUE: u8 = 2;
-
-const NO_ROOM: u8 = 19;
 
 // One more than the highest number that a register's upper word holds of it: 29 of 93 bits, 20 of 84 and 47 of 111.
 const A_TOP: u64 = 536870912;
@@ -84,7 +68,7 @@ const C_TOP: u64 = 140737488355328;
 // The registers before warm-up. Key and initial value come in with their first bit as the oldest.
 fn load(key: &[u8], iv: &[u8]) -> Registers
     requires { ⌜ (length (now key) ≡ 10) × (length (now iv) ≡ 10) ⌝ }
-    ensures { λ r. ⌜ r ≡ packed (loaded (now (key .entry)) (now (iv .entry))) ⌝ }
+    ensures { λ r. ⌜ state r ≡ loaded (now (key .entry)) (now (iv .entry)) ⌝ }
 {
     let a1 = octets::number_at(key, 0, 2);
     let a0 = octets::number_at(key, 2, 8);
@@ -116,34 +100,25 @@ fn refused_making(number: u8) -> Made
     }
 }
 
-// Eight bytes from `at` under a word of keystream, read and written as one word.
-fn encipher_word(input: &[u8], output: &mut [u8], at: usize, word: u64)
-    ensures { λ _. ⌜ now (output .exit) ≡ numberPlaced (now (output .entry)) at 8 (bitXor (numberAt (now (input .entry)) at 8) word) ⌝ }
-{
-    let read = octets::number_at(input, at, 8);
-    octets::write_number(output, at, 8, read ^ word);
-}
-
 impl Registers {
     // A cipher, warmed up, from a key and an initial value of ten bytes each.
     pub fn new(key: &[u8], iv: &[u8]) -> Made
-        ensures { λ r. ⌜ r ≡ making (now (key .entry)) (now (iv .entry)) ⌝ }
+        ensures { λ r. ⌜ r ≡ makingCipher (now (key .entry)) (now (iv .entry)) ⌝ }
     {
         if key.len() != KEY_BYTES {
-            return refused_making(BAD_KEY);
+            return refused_making(refusals::BAD_KEY);
         }
         if iv.len() != VALUE_BYTES {
-            return refused_making(BAD_VALUE);
+            return refused_making(refusals::BAD_VALUE);
         }
         Made {
-            refusal: ACCEPTED,
+            refusal: refusals::ACCEPTED,
             registers: load(key, iv).warmed_up(),
         }
     }
 
     // The blank rounds, by the plain engine.
     fn warmed_up(self) -> Registers
-        requires { ⌜ self ≡ packed (state self) ⌝ }
         ensures { λ r. ⌜ r ≡ packed (steps warmUp (state self)) ⌝ }
     {
         let mut registers = self;
@@ -156,60 +131,37 @@ impl Registers {
         registers
     }
 
-    // One bit and one step. Every tap lies 66 bits back or more, so all of them are in the upper words.
-    pub fn step(self) -> Stepped
-        ensures { λ r. ⌜ r ≡ stepping self ⌝ }
+    // n bits and n steps, by what the taps give for them. The upper words move up, and spare bits go.
+    fn moved(self, n: usize, new: taps::Newest) -> Strode
+        requires { ⌜ (n ≤ 64) × (new ≡ newest n (state self)) ⌝ }
+        ensures { λ r. ⌜ r ≡ strides n self ⌝ }
     {
-        let a1 = self.a1;
-        let a0 = self.a0;
-        let b1 = self.b1;
-        let b0 = self.b0;
-        let c1 = self.c1;
-        let c0 = self.c0;
-        let from_a = (a1 >> 1) ^ (a1 >> 28);
-        let from_b = (b1 >> 4) ^ (b1 >> 19);
-        let from_c = (c1 >> 1) ^ (c1 >> 46);
-        let new_a = (from_c ^ ((c1 >> 45) & (c1 >> 44)) ^ (a1 >> 4)) % 2;
-        let new_b = (from_a ^ ((a1 >> 27) & (a1 >> 26)) ^ (b1 >> 13)) % 2;
-        let new_c = (from_b ^ ((b1 >> 18) & (b1 >> 17)) ^ (c1 >> 22)) % 2;
-        Stepped {
-            bit: ((from_c ^ from_a ^ from_b) % 2) as u8,
+        let a1 = taps::shifted(self.a1, self.a0, n);
+        let b1 = taps::shifted(self.b1, self.b0, n);
+        let c1 = taps::shifted(self.c1, self.c0, n);
+        Strode {
+            word: new.z,
             next: Registers {
-                a1: ((a1 << 1) | (a0 >> 63)) % A_TOP,
-                a0: (a0 << 1) | new_a,
-                b1: ((b1 << 1) | (b0 >> 63)) % B_TOP,
-                b0: (b0 << 1) | new_b,
-                c1: ((c1 << 1) | (c0 >> 63)) % C_TOP,
-                c0: (c0 << 1) | new_c,
+                a1: a1 % A_TOP,
+                a0: new.a,
+                b1: b1 % B_TOP,
+                b0: new.b,
+                c1: c1 % C_TOP,
+                c0: new.c,
             },
         }
     }
 
-    // The taps of 64 steps at once: none of them reaches a bit that comes in on the way.
-    fn ahead(self) -> Ahead
-        ensures { λ r. ⌜ (r .z ≡ number 2 (bits 64 (state self))) × (r .a ≡ steps 64 (state self) .a % 2 ^ 64)
-            × (r .b ≡ steps 64 (state self) .b % 2 ^ 64) × (r .c ≡ steps 64 (state self) .c % 2 ^ 64) ⌝ }
+    // One bit and one step.
+    pub fn step(self) -> Stepped
+        ensures { λ r. ⌜ r ≡ stepping self ⌝ }
     {
-        let a1 = self.a1;
-        let a0 = self.a0;
-        let b1 = self.b1;
-        let b0 = self.b0;
-        let c1 = self.c1;
-        let c0 = self.c0;
-        let from_a = ((a1 << 62) | (a0 >> 2)) ^ ((a1 << 35) | (a0 >> 29));
-        let from_b = ((b1 << 59) | (b0 >> 5)) ^ ((b1 << 44) | (b0 >> 20));
-        let from_c = ((c1 << 62) | (c0 >> 2)) ^ ((c1 << 17) | (c0 >> 47));
-        Ahead {
-            z: from_c ^ from_a ^ from_b,
-            a: from_c
-                ^ (((c1 << 18) | (c0 >> 46)) & ((c1 << 19) | (c0 >> 45)))
-                ^ ((a1 << 59) | (a0 >> 5)),
-            b: from_a
-                ^ (((a1 << 36) | (a0 >> 28)) & ((a1 << 37) | (a0 >> 27)))
-                ^ ((b1 << 50) | (b0 >> 14)),
-            c: from_b
-                ^ (((b1 << 45) | (b0 >> 19)) & ((b1 << 46) | (b0 >> 18)))
-                ^ ((c1 << 41) | (c0 >> 23)),
+        let new = taps::step(self.a1, self.a0, self.b1, self.b0, self.c1, self.c0);
+        let strode = self.moved(1, new);
+        let next = strode.next;
+        Stepped {
+            bit: strode.word as u8,
+            next,
         }
     }
 
@@ -217,78 +169,18 @@ impl Registers {
     pub fn stride(self) -> Strode
         ensures { λ r. ⌜ r ≡ striding self ⌝ }
     {
-        let a0 = self.a0;
-        let b0 = self.b0;
-        let c0 = self.c0;
-        let ahead = self.ahead();
-        Strode {
-            word: ahead.z,
-            next: Registers {
-                a1: a0 % A_TOP,
-                a0: ahead.a,
-                b1: b0 % B_TOP,
-                b0: ahead.b,
-                c1: c0 % C_TOP,
-                c0: ahead.c,
-            },
-        }
-    }
-
-    // The same registers, with every spare bit zero.
-    fn trimmed(self) -> Registers
-        ensures { λ r. ⌜ r ≡ packed (state self) ⌝ }
-    {
-        let a1 = self.a1;
-        let b1 = self.b1;
-        let c1 = self.c1;
-        Registers {
-            a1: a1 % A_TOP,
-            a0: self.a0,
-            b1: b1 % B_TOP,
-            b0: self.b0,
-            c1: c1 % C_TOP,
-            c0: self.c0,
-        }
+        let new = taps::stride(self.a1, self.a0, self.b1, self.b0, self.c1, self.c0);
+        self.moved(64, new)
     }
 
     // A part of a stride: as many bits as the bytes have, and as many steps.
-    fn part(self, bytes: usize) -> Strode
+    fn short_stride(self, bytes: usize) -> Strode
         requires { ⌜ bytes ≤ 8 ⌝ }
-        ensures { λ r. ⌜ (r .word ≡ number 2 (bits (8 * bytes) (state self))) × (r .next ≡ skipping self bytes) ⌝ }
+        ensures { λ r. ⌜ r ≡ strides (8 * bytes) self ⌝ }
     {
-        if bytes == 0 {
-            return Strode {
-                word: 0,
-                next: self.trimmed(),
-            };
-        }
-        if bytes == 8 {
-            return self.stride();
-        }
         let n = 8 * bytes;
-        let k = 64 - n;
-        let ahead = self.ahead();
-        let new_z = ahead.z;
-        let new_a = ahead.a;
-        let new_b = ahead.b;
-        let new_c = ahead.c;
-        let a1 = self.a1;
-        let a0 = self.a0;
-        let b1 = self.b1;
-        let b0 = self.b0;
-        let c1 = self.c1;
-        let c0 = self.c0;
-        Strode {
-            word: new_z >> k,
-            next: Registers {
-                a1: ((a1 << n) | (a0 >> k)) % A_TOP,
-                a0: (a0 << n) | (new_a >> k),
-                b1: ((b1 << n) | (b0 >> k)) % B_TOP,
-                b0: (b0 << n) | (new_b >> k),
-                c1: ((c1 << n) | (c0 >> k)) % C_TOP,
-                c0: (c0 << n) | (new_c >> k),
-            },
-        }
+        let new = taps::short_stride(self.a1, self.a0, self.b1, self.b0, self.c1, self.c0, n);
+        self.moved(n, new)
     }
 
     // The registers after so many bytes of keystream that nobody takes.
@@ -302,57 +194,49 @@ impl Registers {
             registers = strode.next;
             left -= 8;
         }
-        let last = registers.part(left);
+        let last = registers.short_stride(left);
         last.next
     }
 
-    // Up to eight bytes from `at` under the next bytes of the keystream.
-    fn encipher_some(self, input: &[u8], output: &mut [u8], at: usize, bytes: usize) -> Registers
-        requires { ⌜ (bytes ≤ 8) × (at + bytes ≤ length (now input)) × (at + bytes ≤ length (now output)) ⌝ }
-        ensures { λ r. ⌜ (r ≡ skipping self bytes)
-            × (now (output .exit) ≡ placed (now (output .entry)) at (enciphered (keystream (state self)) (slice (now (input .entry)) at bytes))) ⌝ }
-    {
-        let strode = self.part(bytes);
-        let word = octets::number_at(input, at, bytes) ^ strode.word;
-        octets::write_number(output, at, bytes, word);
-        strode.next
-    }
-
-    // Sixteen bytes from `at`. After two strides each word of the registers is back in its place: a loop of these moves none.
+    // Sixteen bytes from `at`. After two strides each word of the registers is back in its place: a loop of these moves
+    // none.
     fn encipher_sixteen(self, input: &[u8], output: &mut [u8], at: usize) -> Registers
         requires { ⌜ (at + 16 ≤ length (now input)) × (at + 16 ≤ length (now output)) ⌝ }
         ensures { λ r. ⌜ (state r ≡ steps 128 (state self))
-            × (now (output .exit) ≡ placed (now (output .entry)) at (enciphered (keystream (state self)) (slice (now (input .entry)) at 16))) ⌝ }
+            × (now (output .exit) ≡ partEnciphered self (now (input .entry)) (now (output .entry)) at 16) ⌝ }
     {
         let running = Running { registers: self };
         let one = running.stride();
-        encipher_word(input, output, at, one.word);
+        octet_writer::cover(input, output, at, 8, one.word);
         let two = one.next.stride();
-        encipher_word(input, output, at + 8, two.word);
+        octet_writer::cover(input, output, at + 8, 8, two.word);
         two.next.registers
     }
 
-    // What is left behind the sixteens.
+    // What is left behind the sixteens: eight bytes or none of them, and the bytes behind those.
     fn encipher_rest(self, input: &[u8], output: &mut [u8], at: usize, bytes: usize) -> Registers
-        requires { ⌜ (bytes ≤ 16) × (at + bytes ≤ length (now input)) × (at + bytes ≤ length (now output)) ⌝ }
+        requires { ⌜ (bytes < 16) × (at + bytes ≤ length (now input)) × (at + bytes ≤ length (now output)) ⌝ }
         ensures { λ r. ⌜ (r ≡ skipping self bytes)
-            × (now (output .exit) ≡ placed (now (output .entry)) at (enciphered (keystream (state self)) (slice (now (input .entry)) at bytes))) ⌝ }
+            × (now (output .exit) ≡ partEnciphered self (now (input .entry)) (now (output .entry)) at bytes) ⌝ }
     {
-        if bytes <= 8 {
-            return self.encipher_some(input, output, at, bytes);
-        }
-        let next = self.encipher_some(input, output, at, 8);
-        next.encipher_some(input, output, at + 8, bytes - 8)
+        let tail = bytes % 8;
+        let whole = bytes - tail;
+        let one = self.short_stride(whole);
+        octet_writer::cover(input, output, at, whole, one.word);
+        let two = one.next.short_stride(tail);
+        octet_writer::cover(input, output, at + whole, tail, two.word);
+        two.next
     }
 
     // The input under the keystream, to the front of the output.
     pub fn encipher(self, input: &[u8], output: &mut [u8]) -> Enciphered
-        ensures { λ r. ⌜ outcome r (now (output .exit)) ≡ enciphering self (now (input .entry)) (now (output .entry)) ⌝ }
+        ensures { λ r. ⌜ outcome r (now (output .exit))
+            ≡ enciphering self (now (input .entry)) (now (output .entry)) ⌝ }
     {
         let n = input.len();
         if output.len() < n {
             return Enciphered {
-                refusal: NO_ROOM,
+                refusal: refusals::NO_ROOM,
                 next: self,
             };
         }
@@ -363,7 +247,7 @@ impl Registers {
             at += 16;
         }
         Enciphered {
-            refusal: ACCEPTED,
+            refusal: refusals::ACCEPTED,
             next: registers.encipher_rest(input, output, at, n - at),
         }
     }
@@ -374,21 +258,18 @@ impl Running {
     pub fn stride(self) -> Ran
         ensures { λ r. ⌜ r ≡ running self ⌝ }
     {
-        let registers = self.registers;
-        let a0 = registers.a0;
-        let b0 = registers.b0;
-        let c0 = registers.c0;
-        let ahead = registers.ahead();
+        let old = self.registers;
+        let new = taps::stride(old.a1, old.a0, old.b1, old.b0, old.c1, old.c0);
         Ran {
-            word: ahead.z,
+            word: new.z,
             next: Running {
                 registers: Registers {
-                    a1: a0,
-                    a0: ahead.a,
-                    b1: b0,
-                    b0: ahead.b,
-                    c1: c0,
-                    c0: ahead.c,
+                    a1: old.a0,
+                    a0: new.a,
+                    b1: old.b0,
+                    b0: new.b,
+                    c1: old.c0,
+                    c0: new.c,
                 },
             },
         }

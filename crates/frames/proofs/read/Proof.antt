@@ -1,76 +1,67 @@
--- `frames::read` meets its contract: the first byte picks the row, and no row is kept with session 0.
--- Assumes nothing.
+-- `frames::read` meets its contract: its tests are those of the definition, over the numbers that it reads.
 use mathlib.Core.Path.{_≡_, sym, _∙_}
+use Prim.Native.Nat.{ℕ, _<_}
 use native.Mathlib.Omega.{arith}
 use borrow.Author.Needs.{needs}
-use Rattle.frames.specs.Frames.{field}
-use Rattle.octets.proofs.Numbers.{number-read}
-use Rattle.frames.proofs.Reading.{no-session, no-row, too-long-short, too-long-told}
+use lib.ListN.{length}
+use Rattle.octets.specs.Digits.{numberAt, word}
+use Rattle.octets.proofs.Numbers.{word-read}
+use Rattle.frames.specs.{Frames.heard, Told.told}
+use Rattle.frames.proofs.FramesRead.{tests, read-so, if-so, if-not}
 use Rattle.frames.proofs.read.Statement.{statement}
 use Rattle.frames.proofs.read.Tie as tie
 
-kind : (c : tie.After-number-at) → c .number-at .result ≡ field (c .before .before .args .message .now) 0 1
-kind c =
-    c .number-at .ensures
-    ∙ number-read (c .before .before .args .message .now) 0 1 (λ i. omega (arith, c .before .shared-slice-known .given i)) (omega arith)
+-- a byte that was read
+byte : (c : tie.After-shared-slice-known) (at w : ℕ) → let m = c .before .args .message .now in
+    w ≡ word (numberAt m at 1) → (w ≡ numberAt m at 1) × (w < 256)
+byte c at w e =
+    word-read (c .before .args .message .now) at 1 (λ i. omega (arith, c .shared-slice-known .given i)) (omega arith) e
 
-number-at-requires : tie.Need-number-at-requires
-number-at-requires c κs = search needs
+as-read : (c : tie.After-number-at2) → let m = c .before .before .before .before .before .before .args .message .now in
+    tests (length m) (c .before .before .before .before .number-at .result) (c .before .before .before .four-at .result)
+    (c .before .before .four-at2 .result) (c .before .two-at .result) (c .number-at2 .result)
+    ≡ told (heard m)
+as-read c =
+    let two = c .before in
+    let four = two .before in
+    let session = four .before in
+    let kind = session .before in
+    let m = kind .before .before .args .message .now in
+    (λ j. tests (length m) (byte (kind .before) 0 _ (kind .number-at .ensures) .0 j) (session .four-at .ensures j)
+    (four .four-at2 .ensures j) (two .two-at .ensures j) (byte (kind .before) 7 _ (c .number-at2 .ensures) .0 j))
+    ∙ sym (read-so m)
 
-four-at-requires : tie.Need-four-at-requires
-four-at-requires c κs = search needs
+add-if2 : tie.Need-add-if2
+add-if2 c = omega (arith, byte (c .before .before .before .before .before .before) 7 _ (c .before .number-at2 .ensures))
 
 returns : tie.Need-returns
-returns c = no-session (c .before .before .before .before .args .message .now) (omega arith)
-
-read-opening-requires : tie.Need-read-opening-requires
-read-opening-requires c κs = (sym (kind (c .before .before .before)) ∙ c .if2 .taken, c .before .before .four-at .ensures, omega arith)
+returns c = if-so _ _ _ (c .if1 .taken) (as-read (c .before))
 
 returns-2 : tie.Need-returns-2
-returns-2 c = search needs
-
-read-block-requires : tie.Need-read-block-requires
-read-block-requires c κs = (sym (kind (c .before .before .before .before)) ∙ c .if3 .taken, c .before .before .before .four-at .ensures, omega arith)
+returns-2 c = if-so _ _ _ (c .if2 .taken) (if-not _ _ _ (c .before .if1 .left) (as-read (c .before .before)))
 
 returns-3 : tie.Need-returns-3
-returns-3 c = search needs
-
-read-holds-requires : tie.Need-read-holds-requires
-read-holds-requires c κs = (sym (kind (c .before .before .before .before .before)) ∙ c .if4 .taken, c .before .before .before .before .four-at .ensures, omega arith)
+returns-3 c =
+    let e = c .before in
+    if-so _ _ _ (c .if3 .taken)
+    (if-not _ _ _ (e .if2 .left) (if-not _ _ _ (e .before .if1 .left) (as-read (e .before .before))))
 
 returns-4 : tie.Need-returns-4
-returns-4 c = search needs
+returns-4 c =
+    let e = c .before .before in
+    if-so _ _ _ (c .if4 .taken)
+    (if-not _ _ _ (c .before .if3 .left)
+    (if-not _ _ _ (e .if2 .left) (if-not _ _ _ (e .before .if1 .left) (as-read (e .before .before)))))
 
 returns-5 : tie.Need-returns-5
 returns-5 c =
-    let k = kind (c .before .before .before .before .before .before) in
-    no-row (c .before .before .before .before .before .before .before .before .args .message .now)
-    (λ e. c .before .before .before .if2 .left (k ∙ e)) (λ e. c .before .before .if3 .left (k ∙ e)) (λ e. c .before .if4 .left (k ∙ e)) (λ e. c .if5 .taken (k ∙ e))
-
-returns-6 : tie.Need-returns-6
-returns-6 c =
-    too-long-short (c .before .before .before .before .before .before .before .before .before .args .message .now)
-    (sym (kind (c .before .before .before .before .before .before .before)) ∙ c .before .if5 .left) (c .if6 .taken)
-
-returns-7 : tie.Need-returns-7
-returns-7 c =
-    let f = c .before .before .before .before .before .before .four-at in
-    too-long-told (c .before .before .before .before .before .before .before .before .before .args .message .now) (f .result)
-    (sym (kind (c .before .before .before .before .before .before .before)) ∙ c .before .if5 .left) (c .if6 .left) (f .ensures) (omega arith)
+    let e = c .before .before in
+    if-not _ _ _ (c .if4 .left)
+    (if-not _ _ _ (c .before .if3 .left)
+    (if-not _ _ _ (e .if2 .left) (if-not _ _ _ (e .before .if1 .left) (as-read (e .before .before)))))
 
 pub read-spec : {M : Type 1} → statement M
 read-spec =
     tie.close
-    (tie.spec
-    number-at-requires
-    four-at-requires
-    returns
-    read-opening-requires
-    returns-2
-    read-block-requires
-    returns-3
-    read-holds-requires
-    returns-4
-    returns-5
-    returns-6
-    returns-7)
+    (tie.spec (λ c κs. tt) (λ c κs. tt) (λ c κs. tt) (λ c κs. tt) (λ c κs. tt) (λ c. search needs) returns add-if2
+    returns-2 returns-3 returns-4 returns-5)

@@ -1,16 +1,10 @@
 -- `pack::name_good` meets its contract: what is passed was good, so the whole is as good as what is left.
--- Assumes nothing.
-use mathlib.Core.Path.{_≡_, refl, sym, ap, _∙_}
+use mathlib.Core.{Path._≡_, Path.refl, Path.sym, Path.ap, Path._∙_, Bool._&&_, List.List}
 use Prim.Native.Nat.{ℕ, _+_, _-_, _<_, _≤_}
-use mathlib.Core.Bool.{_&&_}
-use mathlib.Core.List.{List}
-use native.Mathlib.Omega.{arith}
+use native.Mathlib.{Omega.arith, Numerals.add-one}
 use borrow.Author.Tests.{le-leb, lt-leb}
-use lib.ListN.{length, getD, drop}
-use lib.Dec.{leb}
+use lib.{ListN.length, ListN.getD, ListN.drop, Dec.leb, Seq.drop-cons, Seq.drop-length}
 use Rattle.pack.specs.Layout.{nameGood}
-use native.Mathlib.Numerals.{add-one}
-use lib.Seq.{drop-cons, drop-length}
 use Rattle.pack.proofs.name_good.Statement.{statement}
 use Rattle.pack.proofs.name_good.Tie as tie
 
@@ -21,15 +15,12 @@ abbrev μ-loop : tie.MeasureT-loop
 μ-loop name i₀ i = length name - i
 
 -- the next byte, and those after it
-next-byte : (name : List ℕ) (i : ℕ) → i < length name → nameGood (drop i name) ≡ leb 32 (getD name i 0) && leb (getD name i 0) 126 && nameGood (drop (i + 1) name)
+next-byte : (name : List ℕ) (i : ℕ) → i < length name
+    → nameGood (drop i name) ≡ leb 32 (getD name i 0) && leb (getD name i 0) 126 && nameGood (drop (i + 1) name)
 unfolding nameGood
-next-byte name i h = ap nameGood (drop-cons name i 0 h) ∙ ap (λ (k : ℕ). leb 32 (getD name i 0) && leb (getD name i 0) 126 && nameGood (drop k name)) (sym (add-one i))
-
-loop-holds : tie.Need-loop-holds Inv-loop μ-loop
-loop-holds c = (omega arith, refl)
-
-shared-slice-read-byte : tie.Need-shared-slice-read-byte Inv-loop μ-loop
-shared-slice-read-byte c = omega arith
+next-byte name i h =
+    ap nameGood (drop-cons name i 0 h)
+    ∙ ap (λ (k : ℕ). leb 32 (getD name i 0) && leb (getD name i 0) 126 && nameGood (drop k name)) (sym (add-one i))
 
 returns : tie.Need-returns Inv-loop μ-loop
 returns c =
@@ -41,13 +32,8 @@ returns-2 : tie.Need-returns-2 Inv-loop μ-loop
 returns-2 c =
     let l = c .before .before .before .before .loop in
     let name = c .before .before .before .before .before .args .name .now in
-    sym (l .inv .1 ∙ next-byte name (l .i) (omega arith) ∙ rw (le-leb 32 (getD name (l .i) 0) (c .before .if1 .left), lt-leb (getD name (l .i) 0) 126 (c .if2 .taken)))
-
-add-i : tie.Need-add-i Inv-loop μ-loop
-add-i c = omega arith
-
-loop-less : tie.Need-loop-less Inv-loop μ-loop
-loop-less c = omega arith
+    sym (l .inv .1 ∙ next-byte name (l .i) (omega arith)
+    ∙ rw (le-leb 32 (getD name (l .i) 0) (c .before .if1 .left), lt-leb (getD name (l .i) 0) 126 (c .if2 .taken)))
 
 loop-again : tie.Need-loop-again Inv-loop μ-loop
 loop-again c =
@@ -69,14 +55,5 @@ returns-3 c =
 pub name-good-spec : {M : Type 1} → statement M
 name-good-spec =
     tie.close
-    (tie.spec
-    Inv-loop
-    μ-loop
-    loop-holds
-    shared-slice-read-byte
-    returns
-    returns-2
-    add-i
-    loop-less
-    loop-again
-    returns-3)
+    (tie.spec Inv-loop μ-loop (λ c. (omega arith, refl)) (λ c. omega arith) returns returns-2 (λ c. omega arith)
+    (λ c. omega arith) loop-again returns-3)

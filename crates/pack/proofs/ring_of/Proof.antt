@@ -1,22 +1,9 @@
 -- `pack::ring_of` meets its contract: key by key.
--- Assumes nothing.
 use mathlib.Core.List.{[], _∷_}
 use Rattle.pack.specs.Ring.{ringOf}
 use borrow.Author.Needs.{needs}
 use Rattle.pack.proofs.ring_of.Statement.{statement}
 use Rattle.pack.proofs.ring_of.Tie as tie
-
-key-at-requires : tie.Need-key-at-requires
-key-at-requires c κs = search needs
-
-key-at-requires-2 : tie.Need-key-at-requires-2
-key-at-requires-2 c κs = search needs
-
-key-at-requires-3 : tie.Need-key-at-requires-3
-key-at-requires-3 c κs = search needs
-
-key-at-requires-4 : tie.Need-key-at-requires-4
-key-at-requires-4 c κs = search needs
 
 returns : tie.Need-returns
 unfolding ringOf
@@ -30,4 +17,4 @@ returns c =
 pub ring-of-spec : {M : Type 1} → statement M
 ring-of-spec =
     tie.close
-    (tie.spec key-at-requires key-at-requires-2 key-at-requires-3 key-at-requires-4 returns)
+    (tie.spec (λ c κs. search needs) (λ c κs. search needs) (λ c κs. search needs) (λ c κs. search needs) returns)

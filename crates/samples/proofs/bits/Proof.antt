@@ -1,20 +1,14 @@
 -- `samples::bits` meets its contract: by the sign, the bits are the sample itself, or 65,535 less what it is below -1.
--- Assumes nothing.
-use mathlib.Core.Path.{_≡_, refl, ap, _∙_}
-use mathlib.Core.Bool.{true, false}
+use mathlib.Core.{Path._≡_, Path.refl, Path.ap, Path._∙_, Bool.true, Bool.false}
 use Prim.Native.Nat.{ℕ, _-_, _<_}
 use native.Mathlib.Omega.{arith}
-use borrow.Author.Needs.{sfits-of}
-use borrow.Author.Tests.{leb-false}
-use lib.Dec.{T}
-use lib.IntN.{ℤ, pos, negsuc, natAbs, _-ℤ_}
-use lib.Signed.{leZ, nonNeg}
+use borrow.Author.{Needs.sfits-of, Tests.leb-false}
+use lib.{Dec.T, IntN.ℤ, IntN.pos, IntN.negsuc, IntN.natAbs, IntN._-ℤ_, Signed.leZ, Signed.nonNeg}
 use mir.Syntax.{w16}
 use mir.Val.{toZ, ofZ, Fits, SFits}
 use mir.ValLaws.{toZ-ofZ}
 use Rattle.samples.specs.Words.{unsigned}
-use Rattle.samples.proofs.Laws.{minus-one-more}
-use Rattle.samples.proofs.bits.Statement.{statement}
+use Rattle.samples.proofs.{Words.minus-one-more, bits.Statement.statement}
 use Rattle.samples.proofs.bits.Tie as tie
 
 -- what the code sees of a sample is the sample
@@ -63,7 +57,9 @@ returns c =
     rw (seen z f) (kept z f (rw (seen z f) at (c .if1 .taken)) .same)
 
 below : (c : tie.Else1) → Under (c .before .args .sample)
-below c = under (c .before .args .sample) (c .before .fits .sample) (rw (seen (c .before .args .sample) (c .before .fits .sample)) at (c .if1 .left))
+below c =
+    under (c .before .args .sample) (c .before .fits .sample)
+    (rw (seen (c .before .args .sample) (c .before .fits .sample)) at (c .if1 .left))
 
 sub-result : tie.Need-sub-result
 sub-result c =
@@ -71,10 +67,13 @@ sub-result c =
     rw (seen z (c .before .fits .sample), below c .less) (sfits-of (below c .small))
 
 cast-result-2 : tie.Need-cast-result-2
-cast-result-2 c = rw (lower (c .before .args .sample) (c .before .fits .sample) (below c)) (tt, record { fits = omega (arith, below c .small) })
+cast-result-2 c =
+    rw (lower (c .before .args .sample) (c .before .fits .sample) (below c))
+    (tt, record { fits = omega (arith, below c .small) })
 
 sub-result-2 : tie.Need-sub-result-2
-sub-result-2 c = rw (lower (c .before .args .sample) (c .before .fits .sample) (below c)) (omega (arith, below c .small))
+sub-result-2 c =
+    rw (lower (c .before .args .sample) (c .before .fits .sample) (below c)) (omega (arith, below c .small))
 
 returns-2 : tie.Need-returns-2
 returns-2 c = rw (lower (c .before .args .sample) (c .before .fits .sample) (below c)) (below c .same)

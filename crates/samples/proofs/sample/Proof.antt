@@ -1,17 +1,15 @@
--- `samples::sample` meets its contract: below 32,768 the number is the sample, and from there on -1 less what is missing to 65,535.
--- Assumes nothing.
+-- `samples::sample` meets its contract: below 32,768 the number is the sample, and from there on -1 less what is
+-- missing to 65,535.
 use mathlib.Core.Path.{_≡_, sym, ap, subst, _∙_}
 use Prim.Native.Nat.{ℕ, _-_, _<_, _≤_}
 use native.Mathlib.Omega.{arith}
-use borrow.Author.Needs.{needs, sfits-of}
-use borrow.Author.Tests.{lt-ltb, le-ltb}
+use borrow.Author.{Needs.needs, Needs.sfits-of, Tests.lt-ltb, Tests.le-ltb}
 use lib.IntN.{ℤ, negsuc, _-ℤ_}
 use mir.Syntax.{w16}
 use mir.Val.{toZ, SFits}
 use mir.ValLaws.{toZ-pos, toZ-ofZ}
 use Rattle.samples.specs.Words.{signed}
-use Rattle.samples.proofs.Laws.{minus-one-less}
-use Rattle.samples.proofs.sample.Statement.{statement}
+use Rattle.samples.proofs.{Words.minus-one-less, sample.Statement.statement}
 use Rattle.samples.proofs.sample.Tie as tie
 
 positive : (n : ℕ) → n < 32768 → toZ w16 n ≡ signed n
@@ -29,17 +27,8 @@ below-zero : (n : ℕ) → 32768 ≤ n → n < 65536 → negsuc (65535 - n) ≡ 
 unfolding signed
 below-zero n lo hi = rw (le-ltb n 32768 lo)
 
-cast-result : tie.Need-cast-result
-cast-result c = search needs
-
 returns : tie.Need-returns
 returns c = positive (c .before .args .n) (omega arith)
-
-sub-result : tie.Need-sub-result
-sub-result c = search needs
-
-cast-result-2 : tie.Need-cast-result-2
-cast-result-2 c = search needs
 
 sub-result-2 : tie.Need-sub-result-2
 sub-result-2 c = negative-fits (65535 - c .before .args .n) (omega arith)
@@ -53,4 +42,6 @@ returns-2 c =
     ∙ below-zero n (omega arith) (omega arith)
 
 pub sample-spec : {M : Type 1} → statement M
-sample-spec = tie.close (tie.spec cast-result returns sub-result cast-result-2 sub-result-2 returns-2)
+sample-spec =
+    tie.close
+    (tie.spec (λ c. search needs) returns (λ c. search needs) (λ c. search needs) sub-result-2 returns-2)

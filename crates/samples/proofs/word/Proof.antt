@@ -1,8 +1,6 @@
 -- `samples::word` meets its contract: two bytes make the number whose sample it is.
--- Assumes nothing.
-use mathlib.Core.Path.{_≡_, ap, _∙_}
+use mathlib.Core.{Path._≡_, Path.ap, Path._∙_, List.[], List._∷_}
 use Prim.Native.Nat.{ℕ, _+_, _*_}
-use mathlib.Core.List.{[], _∷_}
 use native.Mathlib.Omega.{arith}
 use borrow.Author.Needs.{needs, sfits-of}
 use mir.Syntax.{w16}
@@ -16,15 +14,6 @@ two-bytes : (upper lower : ℕ) → upper * 256 + lower ≡ number 256 (upper �
 unfolding numberAfter
 two-bytes upper lower = omega arith
 
-mul-sample : tie.Need-mul-sample
-mul-sample c = search needs
-
-add-sample : tie.Need-add-sample
-add-sample c = search needs
-
-sample-requires : tie.Need-sample-requires
-sample-requires c κs = search needs
-
 returns : tie.Need-returns
 returns c =
     toZ-ofZ w16 (c .sample .result) (sfits-of (c .sample .ok))
@@ -32,4 +21,4 @@ returns c =
     ∙ ap signed (two-bytes (c .before .args .upper) (c .before .args .lower))
 
 pub word-spec : {M : Type 1} → statement M
-word-spec = tie.close (tie.spec mul-sample add-sample sample-requires returns)
+word-spec = tie.close (tie.spec (λ c. search needs) (λ c. search needs) (λ c κs. search needs) returns)

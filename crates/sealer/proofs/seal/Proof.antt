@@ -1,204 +1,125 @@
--- `sealer::seal` meets its contract: the first rule that is broken decides, and with none the sections stand one behind the other.
--- Assumes nothing.
-use mathlib.Core.Path.{_≡_, sym, ap, _∙_}
-use Prim.Native.Nat.{ℕ, _+_, _*_, _/_}
-use mathlib.Core.List.{List, _∷_}
+-- `sealer::seal` meets its contract: the first broken rule decides, and with none broken the sections stand one behind
+-- the other.
+use mathlib.Core.Path.{_≡_, sym, ap, ap₂, _∙_}
+use mathlib.Core.List.{List, [], _∷_, _++_, append-assoc}
+use Prim.Native.Nat.{ℕ, _+_, _*_, _≤_}
 use native.Mathlib.Omega.{arith}
 use borrow.Author.Needs.{needs}
-use lib.ListN.{length}
-use Rattle.octets.specs.Stream.{Keystream, enciphered, placed, numberPlaced}
-use Rattle.pack.specs.Layout.{Parts, parts, fours, row}
-use Rattle.pack.specs.Suite.{trivium}
-use Rattle.pack.proofs.Order.{SealPassed, seal-passed}
-use Rattle.sealer.proofs.Sealing.{length-layout, layout-placed, sealing-no, sealing-yes, keystream-started}
+use lib.ListN.{length, length-append}
+use Rattle.octets.specs.{Buffers.placed, Buffers.put, Rows.row, Stream.Keystream, Stream.enciphered}
+use Rattle.octets.proofs.{Buffers.put-placed, Buffers.puts-on, Rows.length-row, Rows.length-equal}
+use Rattle.octets.proofs.{Streams.length-enciphered}
+use Rattle.refusals.specs.{Numbers.accepted, Outcome.outcome, Rules.first}
+use Rattle.refusals.proofs.{Faults.none-wrong, Settled.settled-done, Settled.settled-left}
 use Rattle.samples.specs.Words.{bytesOfAll}
-use Rattle.trivium.specs.Keystream.{keystream}
-use Rattle.trivium.specs.Record.{state}
-use Rattle.trivium.specs.declared.Registers.{Registers}
-use Rattle.pack.proofs.Theorems.{ring-makes}
-use Rattle.trivium.specs.declared.Made.{Made}
+use Rattle.samples.proofs.Words.{length-bytes}
+use Rattle.trivium.specs.{Keystream.keystream, Keystream.trivium, Record.state, declared.Made.Made}
+use Rattle.pack.specs.{Calls.sealingPack, Faults.sealFaults, declared.Sealed.Sealed}
+use Rattle.pack.specs.Layout.{Parts, parts, fours, keyNamed, layout, nameSection, keySection, loopSection}
+use Rattle.pack.proofs.{LaidFiles.length-layout, Theorems.ring-streams}
 use Rattle.sealer.proofs.seal.Statement.{statement}
 use Rattle.sealer.proofs.seal.Tie as tie
 
--- the parts and the output as they were lent
+-- the parts as they were lent
 abbrev lent : tie.Start → Parts
 lent c = parts (c .args .name .now) (c .args .key) (c .args .value .now) (c .args .samples .now) (c .args .loops .now)
 
-abbrev room : tie.Start → List ℕ
-room c = c .args .output .now
+-- the fault, by the file's own length
+found : (c : tie.After-seal-fault)
+    → let s = c .before .before .before .before .before in
+    c .seal-fault .result
+    ≡ first (sealFaults trivium (lent s) (length (layout trivium (s .args .ring) (lent s)))
+    (length (s .args .output .now)))
+found c =
+    let s = c .before .before .before .before .before in
+    c .seal-fault .ensures
+    ∙ ap (λ (n : ℕ). first (sealFaults trivium (lent s) n (length (s .args .output .now))))
+    (sym (length-layout trivium (s .args .ring) (lent s)))
 
--- the way back, from what follows each call
-abbrev start : tie.Else1 → tie.Start
-start c = c .before .before .before .before .before .before
-
-abbrev test : tie.After-write-name → tie.Else1
-test c = c .before .before
-
-abbrev name : tie.After-write-key → tie.After-write-name
-name c = c .before .before .before .before
-
-abbrev key : tie.After-write-number → tie.After-write-key
-key c = c .before .before .before .before
-
-abbrev count : tie.After-write-samples → tie.After-write-number
-count c = c .before .before .before .before .before .before
-
--- what a call that isn't refused may go by
-abbrev sizeOf : Parts → ℕ
-sizeOf p = 8 + length (p .name) + length (p .value) + 2 * length (p .samples) + 4 * length (p .loops)
-
-good : (c : tie.Else1) → SealPassed trivium (lent (start c)) (sizeOf (lent (start c))) (length (room (start c)))
-good c =
-    let p = lent (start c) in
-    seal-passed trivium p (sizeOf p) (length (room (start c))) (sym (c .before .seal-fault .ensures) ∙ c .if1 .left)
-
--- the output is as long as it was
-long-name : (c : tie.After-write-name) → length (c .write-name .last .0) ≡ length (room (start (test c)))
-long-name c = c .write-name .kept .0
-
-long-key : (c : tie.After-write-key) → length (c .write-key .last .0) ≡ length (room (start (test (name c))))
-long-key c = c .write-key .kept .0 ∙ long-name (name c)
-
-long-count : (c : tie.After-write-number) → length (c .write-number .last .0) ≡ length (room (start (test (name (key c)))))
-long-count c = c .write-number .kept .0 ∙ long-key (key c)
-
-long-samples : (c : tie.After-write-samples) → length (c .write-samples .last .1 .1 .0) ≡ length (room (start (test (name (key (count c))))))
-long-samples c = c .write-samples .kept .1 .1 .0 ∙ long-count (count c)
-
--- what stands there after each call
-abbrev withName : Parts → List ℕ → List ℕ
-withName p d = placed d 0 (length (p .name) ∷ p .name)
-
-abbrev withKey : Parts → List ℕ → List ℕ
-withKey p d = placed (withName p d) (1 + length (p .name)) (11 ∷ p .keyNumber ∷ p .value)
-
-abbrev withCount : Parts → List ℕ → List ℕ
-withCount p d = numberPlaced (withKey p d) (1 + length (p .name) + 12) 4 (length (p .samples))
-
-abbrev withSamples : Keystream → Parts → List ℕ → List ℕ
-withSamples k p d = placed (withCount p d) (1 + length (p .name) + 12 + 4) (enciphered k (bytesOfAll (p .samples)))
-
-left-name : (c : tie.After-write-name) → let s = start (test c) in c .write-name .last .0 ≡ withName (lent s) (room s)
-left-name c = c .write-name .ensures
-
-left-key : (c : tie.After-write-key) → let s = start (test (name c)) in c .write-key .last .0 ≡ withKey (lent s) (room s)
-left-key c =
-    let p = lent (start (test (name c))) in
-    c .write-key .ensures ∙ ap (λ (d : List ℕ). placed d (1 + length (p .name)) (11 ∷ p .keyNumber ∷ p .value)) (left-name (name c))
-
-left-count : (c : tie.After-write-number) → let s = start (test (name (key c))) in c .write-number .last .0 ≡ withCount (lent s) (room s)
-left-count c =
-    let p = lent (start (test (name (key c)))) in
-    c .write-number .ensures ∙ ap (λ (d : List ℕ). numberPlaced d (1 + length (p .name) + 12) 4 (length (p .samples))) (left-key (key c))
-
-left-samples : (c : tie.After-write-samples)
-    → let s = start (test (name (key (count c)))) in
-    c .write-samples .last .1 .1 .0 ≡ withSamples (trivium .stream (row (s .args .ring) (s .args .key)) (s .args .value .now)) (lent s) (room s)
-left-samples c =
-    let e = test (name (key (count c))) in
-    let s = start e in
-    let p = lent s in
-    c .write-samples .ensures
-    ∙ ap (λ (d : List ℕ). placed d (1 + length (p .name) + 12 + 4) (enciphered (keystream (state (c .before .before .before .keyed .result .registers))) (bytesOfAll (p .samples)))) (left-count (count c))
-    ∙ ap (λ (k : Keystream). withSamples k p (room s))
-    (ap (λ (r : Registers). keystream (state r))
-    (ap (λ (m : Made). m .registers) (c .before .before .before .keyed .ensures)
-    ∙ ring-makes (s .args .ring) (s .args .key) (s .args .value .now) (good e .keyNumber) (good e .valueCount))
-    ∙ keystream-started (row (s .args .ring) (s .args .key)) (s .args .value .now))
-
-seal-fault-requires : tie.Need-seal-fault-requires
-seal-fault-requires c κs = search needs
+-- what parts that aren't refused have shown
+known : (c : tie.Else1)
+    → let s = c .before .before .before .before .before .before in
+    (length (s .args .name .now) ≤ 32) × (length (s .args .value .now) ≡ 10) × (s .args .key ≤ 3)
+    × (length (s .args .samples .now) ≤ 16384) × (length (s .args .loops .now) ≤ 16)
+    × (18 + length (s .args .name .now) + 2 * length (s .args .samples .now) + 4 * length (s .args .loops .now)
+    ≤ length (s .args .output .now))
+unfolding sealFaults
+known c =
+    let right = none-wrong _ tt (sym (c .before .seal-fault .ensures) ∙ c .if1 .left) in
+    omega arith
 
 returns : tie.Need-returns
-returns c =
-    let s = c .before .before .before .before .before .before in
-    sealing-no trivium (s .args .ring) (lent s) (s .args .output .now) (c .before .seal-fault .ensures) (c .if1 .taken)
+unfolding sealingPack
+returns c = settled-left _ _ _ _ (c .if1 .taken) (found (c .before))
 
-add-key-at : tie.Need-add-key-at
-add-key-at c = search needs
+-- the way back from each call to what was lent
+abbrev passed : tie.After-write-front → tie.Else1
+passed c = c .before .before
 
-add-sample-at : tie.Need-add-sample-at
-add-sample-at c = search needs
+abbrev front : tie.After-write-samples → tie.After-write-front
+front c = c .before .before .before .before .before .before
 
-add-body : tie.Need-add-body
-add-body c = search needs
-
-mul-loop-at : tie.Need-mul-loop-at
-mul-loop-at c = search needs
-
-add-loop-at : tie.Need-add-loop-at
-add-loop-at c = omega (arith, good c .nameCount, good c .sampleCount)
-
-write-name-requires : tie.Need-write-name-requires
-write-name-requires c κs = omega (arith, good (c .before) .nameCount, good (c .before) .fits)
-
-write-key-requires : tie.Need-write-key-requires
-write-key-requires c κs =
-    let w = c .before .before .before in
-    omega (arith, good (test w) .nameCount, good (test w) .valueCount, good (test w) .fits, long-name w)
-
-write-number-requires : tie.Need-write-number-requires
-write-number-requires c κs = search needs
-
-keyed-requires : tie.Need-keyed-requires
-keyed-requires c κs = search needs
-
-write-samples-requires : tie.Need-write-samples-requires
-write-samples-requires c κs =
-    let w = c .before .before .before .before .before in
-    let e = test (name (key w)) in
-    omega (arith, good e .valueCount, good e .fits, long-count w)
+write-front-requires : tie.Need-write-front-requires
+write-front-requires c κs = omega (arith, known (c .before))
 
 write-loops-requires : tie.Need-write-loops-requires
 write-loops-requires c κs =
     let w = c .before .before .before in
-    let e = test (name (key (count w))) in
-    omega (arith, good e .valueCount, good e .loopCount, good e .even, good e .fits, long-samples w)
+    omega (arith, known (passed (front w)), w .write-samples .kept .1 .1 .0, front w .write-front .kept .0)
 
-add-t17 : tie.Need-add-t17
-add-t17 c = let e = test (name (key (count (c .before .before .before .before .before .before)))) in omega (arith, good e .nameCount, good e .sampleCount)
+-- three runs, each behind the one before it, are the file
+module _ (ring : List (List ℕ)) (p : Parts) where
+  abbrev start : List ℕ
+  start = nameSection p ++ (keySection trivium p ++ row (fours 1) (length (p .samples) ∷ []))
 
-mul-t30 : tie.Need-mul-t30
-mul-t30 c = let e = test (name (key (count (c .before .before .before .before .before .before)))) in omega (arith, good e .loopCount)
+  abbrev body : List ℕ
+  body = enciphered (trivium .stream (keyNamed ring (p .keyNumber)) (p .value)) (bytesOfAll (p .samples))
 
-add-t31 : tie.Need-add-t31
-add-t31 c = let e = test (name (key (count (c .before .before .before .before .before .before)))) in omega (arith, good e .nameCount, good e .sampleCount, good e .loopCount)
-
-same-length : tie.Need-same-length
-same-length c = search needs
+  written : (d : List ℕ) {e₁ e₂ e₃ : List ℕ} → length (p .value) ≡ 10
+      → 18 + length (p .name) + 2 * length (p .samples) + 4 * length (p .loops) ≤ length d → e₁ ≡ put d 0 start
+      → e₂ ≡ put e₁ (17 + length (p .name)) body
+      → e₃ ≡ put e₂ (17 + length (p .name) + 2 * length (p .samples)) (loopSection p)
+      → e₃ ≡ placed d 0 (layout trivium ring p)
+  unfolding layout
+  written d ten room p₁ p₂ p₃ =
+      let four = length-row (fours 1) (length (p .samples) ∷ []) in
+      let long : length start ≡ 17 + length (p .name) = simp length-append (omega arith) in
+      let size = length-enciphered (trivium .stream (keyNamed ring (p .keyNumber)) (p .value))
+      (bytesOfAll (p .samples)) ∙ length-bytes (p .samples) in
+      let both = length-append start body in
+      let loops = length-row (fours (length (p .loops))) (p .loops) ∙ length-equal (length (p .loops)) 4 in
+      p₃
+      ∙ puts-on d 0 (start ++ body) (loopSection p) (p₂ ∙ puts-on d 0 start body p₁ (omega arith) (omega arith))
+      (omega arith)
+      (omega arith)
+      ∙ put-placed d 0 ((start ++ body) ++ loopSection p) (simp length-append (omega arith))
+      ∙ ap (placed d 0) (simp append-assoc)
 
 returns-2 : tie.Need-returns-2
+unfolding sealingPack
 returns-2 c =
-    let w = c .before .before .before .before .before .before in
-    let e = test (name (key (count w))) in
-    let s = start e in
+    let w = c .before .before in
+    let samples = w .before .before .before .before in
+    let made = samples .before .before .before in
+    let e = passed (front samples) in
+    let s = e .before .before .before .before .before .before in
     let p = lent s in
-    let at : ℕ = 1 + length (p .name) + 12 + 4 + 2 * length (p .samples) in
-    let size : at + 1 + 4 * length (p .loops) ≡ sizeOf p = omega (arith, good e .valueCount) in
-    sealing-yes trivium (s .args .ring) p (room s) (sym (e .if1 .left) ∙ e .before .seal-fault .ensures) size
-    (c .before .before .write-loops .ensures
-    ∙ ap (λ (d : List ℕ). placed d at (length (p .loops) / 2 ∷ fours (p .loops))) (left-samples w)
-    ∙ layout-placed (s .args .ring) p (room s) (good e .valueCount) (omega (arith, good e .fits, length-layout trivium (s .args .ring) p)))
+    let stream =
+    ap (λ (m : Made). keystream (state (m .registers))) (made .keyed .ensures)
+    ∙ ring-streams (s .args .ring) (s .args .key) (s .args .value .now) (omega (arith, known e))
+    (omega (arith, known e)) in
+    ap₂ (λ (n : ℕ) (d : List ℕ). outcome {A = Sealed} (record { refusal = accepted; length = n }) d)
+    (omega (arith, length-layout trivium (s .args .ring) p, known e))
+    (written (s .args .ring) p (s .args .output .now) (omega (arith, known e)) (omega (arith, known e))
+    (front samples .write-front .ensures)
+    (samples .write-samples .ensures
+    ∙ ap (λ (k : Keystream). put (front samples .write-front .last .0) (17 + length (p .name))
+    (enciphered k (bytesOfAll (p .samples)))) stream) (w .write-loops .ensures))
+    ∙ settled-done _ _ _ (sym (e .if1 .left) ∙ found (e .before))
 
 pub seal-spec : {M : Type 1} → statement M
 seal-spec =
     tie.close
-    (tie.spec
-    seal-fault-requires
-    returns
-    add-key-at
-    add-sample-at
-    add-body
-    mul-loop-at
-    add-loop-at
-    write-name-requires
-    write-key-requires
-    write-number-requires
-    keyed-requires
-    write-samples-requires
-    write-loops-requires
-    add-t17
-    mul-t30
-    add-t31
-    same-length
-    returns-2)
+    (tie.spec (λ c κs. search needs) returns (λ c. search needs) (λ c. search needs) (λ c. omega (arith, known c))
+    (λ c. omega (arith, known c)) (λ c. search needs) (λ c. omega (arith, known c)) write-front-requires
+    (λ c κs. search needs) (λ c κs. search needs) write-loops-requires (λ c. search needs) returns-2)

@@ -1,187 +1,96 @@
--- `receiver::Receiver::hear` meets its contract: the rule, and then what was told decides; a block's bytes stand from byte 8 of the message on.
--- Assumes nothing.
-use mathlib.Core.Path.{_≡_, sym, ap, _∙_}
-use Prim.Native.Nat.{ℕ, _-_, _≤_}
-use mathlib.Core.Bool.{true, false}
-use mathlib.Core.List.{List}
+-- `receiver::Receiver::hear` meets its contract: refused it does nothing; or else the step says what is written, to the
+-- answer and, if a block is in turn, to the sound.
+use mathlib.Core.{Path._≡_, Path.refl, Path.sym, Path.ap, Path._∙_, Logic.⊎-elim, Bool.cond, List.List}
+use Prim.Native.Nat.{ℕ}
 use native.Mathlib.Omega.{arith}
 use borrow.Author.Needs.{needs}
-use borrow.Author.Tests.{not-true, not-false}
-use lib.ListN.{length, take, drop, length-drop}
-use lib.Seq.{take-all}
-use Rattle.octets.proofs.Numbers.{Below}
-use Rattle.frames.specs.Cipher.{trivium}
-use Rattle.frames.specs.Frames.{block, it, heard}
-use Rattle.receiver.specs.Receiver.{received, onBlock, onFrame, receiving}
-use Rattle.receiver.specs.Rules.{receiverInRule}
-use Rattle.receiver.specs.declared.ReceiverAnswer.{ReceiverAnswer}
-use Rattle.frames.proofs.Reading.{runOf, heard-as, run-heard}
+use lib.ListN.{length, drop}
+use Rattle.octets.specs.Buffers.{placed, put}
+use Rattle.octets.proofs.Buffers.{put-placed, length-put}
+use Rattle.refusals.specs.Rules.{AllRight}
+use Rattle.refusals.proofs.Faults.{right-both}
+use Rattle.trivium.specs.Keystream.{trivium}
+use Rattle.blocks.specs.{Blocks.place, Covering.covered}
+use Rattle.frames.specs.Told.{told, heardAs}
+use Rattle.frames.proofs.{FramesRead.told-back, FramesRead.told-again, FramesWritten.length-short}
+use Rattle.receiver.specs.Receiver.{contentFaults, receiveFaults}
+use Rattle.receiver.proofs.Receivers.{none-broken, refused-so, received-so}
 use Rattle.receiver.proofs.Receiver.hear.Statement.{statement}
 use Rattle.receiver.proofs.Receiver.hear.Tie as tie
 
-within : (c : tie.After-read) → receiverInRule (c .before .before .before .before .before .before .args .self) ≡ true
-within c = sym (c .before .before .in-rule .ensures) ∙ not-false _ (c .before .if1 .left)
+-- the message is what was told, with the bytes from its byte 8 on
+module _ (c : tie.After-read) where
+  abbrev message : List ℕ
+  message = c .before .before .before .before .args .frame .now
 
--- where a block was told, the message is that block with the bytes from its byte 8 on
-block-heard : (c : tie.After-told2)
-    → (heard (c .before .before .before .before .before .before .before .before .args .frame .now)
-    ≡ it (block (c .told2 .given .0 .0) (c .told2 .given .0 .1 .0) (drop 8 (c .before .before .before .before .before .before .before .before .args .frame .now))))
-    × (8 ≤ length (c .before .before .before .before .before .before .before .before .args .frame .now))
-block-heard c =
-    let reading = c .before .before in
-    let frame : List ℕ = reading .before .before .before .before .before .before .args .frame .now in
-    let got = c .told2 .given .0 in
-    let bytes : Below 256 frame = λ i. omega (arith, reading .before .before .before .before .before .shared-slice-known .given i) in
-    let said : heard frame ≡ it (block (got .0) (got .1 .0) (runOf (heard frame))) = heard-as (heard frame) (sym (reading .read .ensures) ∙ c .told2 .given .1) in
-    let run = run-heard frame bytes (got .0) (got .1 .0) (runOf (heard frame)) said in
-    (said ∙ ap (λ (l : List ℕ). it (block (got .0) (got .1 .0) l)) (run .0), run .1)
+  fits : c .read .result ≡ told (heardAs (drop 8 message) (c .read .result))
+  fits = told-again message (c .read .ensures)
 
-in-rule-requires : tie.Need-in-rule-requires
-in-rule-requires c κs = search needs
-
-not-received-requires : tie.Need-not-received-requires
-not-received-requires c κs = search needs
+-- no rule is broken
+right : (c : tie.Else1) (run : List ℕ) → let t = c .before .before .read .result in
+    let p = c .before .before .before .before .before .before .args in t ≡ told (heardAs run t)
+    → AllRight (receiveFaults (p .self) (length (p .sound .now)) (length (p .answer .now)) (heardAs run t))
+right c run e =
+    let p = c .before .before .before .before .before .before .args in
+    none-broken (p .self) (length (p .sound .now)) (length (p .answer .now))
+    (heardAs run (c .before .before .read .result)) (sym (c .before .fault .ensures (p .self) run e) ∙ c .if1 .left)
 
 returns : tie.Need-returns
-unfolding receiving
 returns c =
-    let test = c .before .before in
-    let p = test .before .before .before .before .args in
-    let out : receiverInRule (p .self) ≡ false = sym (test .in-rule .ensures) ∙ not-true _ (c .before .if1 .taken) in
-    ap (λ (a : ReceiverAnswer). received a (p .sound .now) (p .answer .now)) (c .not-received .ensures) ∙ rw out
+    let r = c .before .before in
+    let p = r .before .before .before .before .args in
+    refused-so trivium (p .self) (p .sound .now) (p .answer .now) (p .frame .now) _
+    (told-back (message r) (r .read .ensures)) _ (c .if1 .taken)
+    (c .before .fault .ensures (p .self) (drop 8 (message r)) (fits r))
 
-read-requires : tie.Need-read-requires
-read-requires c κs = search needs
+on-frame-requires : tie.Need-on-frame-requires
+on-frame-requires c κs =
+    let r = c .before .before in (
+      r .before .before .before .before .args .self,
+      (
+        right c (drop 8 (message r)) (fits r) .0,
+        λ run e. right-both (contentFaults _ _ (heardAs run (r .read .result))) _ (right c run e .1 .1) .0,
+      ),
+    )
 
-enum-told : tie.Need-enum-told
-enum-told c = search needs
+add-length : tie.Need-add-t10
+add-length c = omega (arith, c .before .before .before .before .before .before .before .on-frame .ensures .0)
 
-not-received-requires-2 : tie.Need-not-received-requires-2
-not-received-requires-2 c κs = search needs
-
-enum-known-told : tie.Need-enum-known-told
-enum-known-told c = search needs
-
-on-opening-requires : tie.Need-on-opening-requires
-on-opening-requires c κs = search needs
-
-enum-known-told-2 : tie.Need-enum-known-told-2
-enum-known-told-2 c = search needs
-
-sub-on-block : tie.Need-sub-on-block
-sub-on-block c = block-heard (c .before) .1
-
-part-on-block-start : tie.Need-part-on-block-start
-part-on-block-start c = block-heard (c .before) .1
-
-part-on-block-end : tie.Need-part-on-block-end
-part-on-block-end c = search needs
-
-on-block-requires : tie.Need-on-block-requires
-on-block-requires c κs = within (c .before .before .before .before .before .before)
-
-enum-told-2 : tie.Need-enum-told-2
-enum-told-2 c = search needs
-
-not-received-requires-3 : tie.Need-not-received-requires-3
-not-received-requires-3 c κs = search needs
-
-enum-told-3 : tie.Need-enum-told-3
-enum-told-3 c = search needs
-
-not-received-requires-4 : tie.Need-not-received-requires-4
-not-received-requires-4 c κs = search needs
-
-returns-2 : tie.Need-returns-2
-unfolding receiving onFrame
-returns-2 c =
-    let reading = c .before .before .before in
-    let p = reading .before .before .before .before .before .before .args in
-    ap (λ (a : ReceiverAnswer). received a (p .sound .now) (p .answer .now)) (c .not-received2 .ensures)
-    ∙ ap (onFrame (p .self) (p .sound .now) (p .answer .now) trivium) (sym (heard-as (heard (p .frame .now)) (sym (reading .read .ensures) ∙ c .before .enum-told .given .1)))
-    ∙ rw (within reading)
+-- what the sound holds afterwards
+after : (c : tie.Joined2) → let s = c .before .before .before .before .before .before in
+    let p = s .before .before .before .before .before .before .before .args in
+    let r = p .self in
+    c .if2 .sound ≡ cond (s .on-frame .result .«in_turn»)
+    (put (p .sound .now) (place (r .count))
+    (covered trivium (r .key) (r .pair) (r .session) (r .count) (drop 8 (p .frame .now)))) (p .sound .now)
+after c =
+    ⊎-elim (λ w. rw (w .0 .taken) (w .5 ∙ w .2 .ensures)) (λ w. rw (w .0 .left) (w .1)) (c .if2 .came)
 
 same-length : tie.Need-same-length
-same-length c = search needs
+same-length c =
+    ⊎-elim (λ w. ap length (w .5 ∙ w .2 .ensures) ∙ length-put _ _ _) (λ w. ap length (w .1)) (c .before .if2 .came)
 
-same-length-2 : tie.Need-same-length-2
-same-length-2 c = search needs
-
-returns-3 : tie.Need-returns-3
-unfolding receiving onFrame
-returns-3 c =
-    let reading = c .before .before .before .before .before .before .before .before in
-    let p = reading .before .before .before .before .before .before .args in
-    c .before .before .on-opening .ensures
-    ∙ ap (onFrame (p .self) (p .sound .now) (p .answer .now) trivium)
-    (sym (heard-as (heard (p .frame .now)) (sym (reading .read .ensures) ∙ c .before .before .before .before .before .before .told .given .1)))
-    ∙ rw (within reading)
-
-same-length-3 : tie.Need-same-length-3
-same-length-3 c = search needs
-
-same-length-4 : tie.Need-same-length-4
-same-length-4 c = search needs
-
-returns-4 : tie.Need-returns-4
-unfolding receiving onFrame
-returns-4 c =
-    let telling = c .before .before .before .before .before .before .before .before .before in
-    let reading = telling .before .before in
-    let p = reading .before .before .before .before .before .before .args in
-    let got = telling .told2 .given .0 in
-    let run : take (length (p .frame .now) - 8) (drop 8 (p .frame .now)) ≡ drop 8 (p .frame .now) =
-    take-all (length (p .frame .now) - 8) (drop 8 (p .frame .now)) (simp length-drop (omega arith)) in
-    c .before .before .before .before .on-block .ensures
-    ∙ ap (onBlock (p .self) (p .sound .now) (p .answer .now) trivium (got .0) (got .1 .0)) run
-    ∙ ap (onFrame (p .self) (p .sound .now) (p .answer .now) trivium) (sym (block-heard telling .0))
-    ∙ rw (within reading)
-
-returns-5 : tie.Need-returns-5
-unfolding receiving onFrame
-returns-5 c =
-    let reading = c .before .before .before in
-    let p = reading .before .before .before .before .before .before .args in
-    ap (λ (a : ReceiverAnswer). received a (p .sound .now) (p .answer .now)) (c .not-received3 .ensures)
-    ∙ ap (onFrame (p .self) (p .sound .now) (p .answer .now) trivium) (sym (heard-as (heard (p .frame .now)) (sym (reading .read .ensures) ∙ c .before .enum-told2 .given .1)))
-    ∙ rw (within reading)
-
-returns-6 : tie.Need-returns-6
-unfolding receiving onFrame
-returns-6 c =
-    let reading = c .before .before .before in
-    let p = reading .before .before .before .before .before .before .args in
-    ap (λ (a : ReceiverAnswer). received a (p .sound .now) (p .answer .now)) (c .not-received4 .ensures)
-    ∙ ap (onFrame (p .self) (p .sound .now) (p .answer .now) trivium) (sym (heard-as (heard (p .frame .now)) (sym (reading .read .ensures) ∙ c .before .enum-told3 .given .1)))
-    ∙ rw (within reading)
+returns-2 : tie.Need-returns-2
+returns-2 c =
+    let written = c .before .before .before .before in
+    let s = written .before .before .before in
+    let r = s .before .before .before in
+    let p = r .before .before .before .before .args in
+    let run : List ℕ = drop 8 (message r) in
+    let t = r .read .result in
+    let all = right (s .before) run (fits r) in
+    let room = right-both (contentFaults (p .self) (length (p .sound .now)) (heardAs run t)) _ (all .1 .1) .1 .0 in
+    let narrow = s .on-frame .ensures .0 in
+    let says = s .on-frame .ensures .1 (p .self) run (p .sound .now) (fits r) refl in
+    let n = s .on-frame .result in
+    let long = length-short (n .kind) (n .named) (n .width) (n .count) in
+    received-so trivium (p .self) (p .sound .now) (p .answer .now) (p .frame .now) (heardAs run t)
+    (told-back (message r) (r .read .ensures)) all (sym (says .0)) (sym (ap length (says .2) ∙ long))
+    (after (c .before) ∙ sym (says .1))
+    (written .write-short .ensures ∙ put-placed _ 0 _ (omega arith) ∙ ap (placed (p .answer .now) 0) (sym (says .2)))
 
 pub hear-spec : {M : Type 1} → statement M
 hear-spec =
     tie.close
-    (tie.spec
-    in-rule-requires
-    not-received-requires
-    returns
-    read-requires
-    enum-told
-    not-received-requires-2
-    enum-known-told
-    on-opening-requires
-    enum-known-told-2
-    sub-on-block
-    part-on-block-start
-    part-on-block-end
-    on-block-requires
-    enum-told-2
-    not-received-requires-3
-    enum-told-3
-    not-received-requires-4
-    returns-2
-    same-length
-    same-length-2
-    returns-3
-    same-length-3
-    same-length-4
-    returns-4
-    returns-5
-    returns-6)
+    (tie.spec (λ c κs. search needs) (λ c κs. search needs) returns on-frame-requires (λ c. search needs)
+    (λ c κs. search needs) (λ c κs. search needs) add-length same-length (λ c. search needs) returns-2)

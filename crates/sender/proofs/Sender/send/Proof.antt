@@ -1,139 +1,95 @@
--- `sender::Sender::send` meets its contract: the rule, and then the phase decides.
--- Assumes nothing.
-use mathlib.Core.Path.{_≡_, sym, ap, _∙_}
-use mathlib.Core.Bool.{true, false}
-use borrow.Author.Needs.{needs}
-use borrow.Author.Tests.{not-true, not-false}
-use Rattle.octets.specs.Outcome.{outcome}
-use Rattle.frames.specs.Cipher.{trivium}
-use Rattle.sender.specs.Rules.{senderInRule}
-use Rattle.sender.specs.Sender.{sentIn, sending}
-use Rattle.sender.specs.declared.Sent.{Sent}
-use Rattle.sender.proofs.Senders.{known-below}
+-- `sender::Sender::send` meets its contract: refused it does nothing; or else the new count tells opening and block
+-- apart, and what is due is written.
+use mathlib.Core.Path.{_≡_, refl, sym, ap, _∙_}
+use mathlib.Core.Bool.{Bool, true, false, not, cond}
+use Prim.Native.Nat.{ℕ, _-_}
+use native.Mathlib.Omega.{arith}
+use borrow.Author.{Needs.needs, Tests.eqb-true, Tests.not-false}
+use lib.{Dec.eqb, Dec.ltb, ListN.length}
+use Rattle.octets.specs.Buffers.{put}
+use Rattle.refusals.specs.Numbers.{accepted, noRoom, noTransfer, wrongSound, outOfRule}
+use Rattle.refusals.specs.Rules.{AllRight, first}
+use Rattle.refusals.proofs.{Faults.none-wrong, Settled.settled-left}
+use Rattle.trivium.specs.Keystream.{trivium}
+use Rattle.frames.proofs.FramesWritten.{short-opening}
+use Rattle.sender.specs.{declared.Phase.Phase, declared.Phase.the-variants.Sending}
+use Rattle.sender.specs.Sender.{dueIn, sendFaults, sending}
+use Rattle.sender.proofs.Senders.{opening-if, sending-if, news-below, sent-so}
 use Rattle.sender.proofs.Sender.send.Statement.{statement}
 use Rattle.sender.proofs.Sender.send.Tie as tie
 
-within : (c : tie.Else1) → senderInRule (c .before .before .before .before .args .self) ≡ true
-within c = sym (c .before .in-rule .ensures) ∙ not-false _ (c .if1 .left)
+-- a rule that isn't reached may say what it likes
+reached : (b : Bool) (n : ℕ) {x y : ℕ} → (b ≡ false → x ≡ y) → cond b n x ≡ cond b n y
+reached true n e = refl
+reached false n e = e refl
 
-in-rule-requires : tie.Need-in-rule-requires
-in-rule-requires c κs = search needs
+fault-is : (c : tie.After-transfer-fault) → let p = c .before .before .before .before .before .before .args in
+    let due = dueIn trivium (p .self) (p .sound .now) (p .self .phase) in
+    c .transfer-fault .result ≡ first (sendFaults (p .self) (p .sound .now) (length due) (length (p .frame .now)))
+unfolding first
+fault-is c =
+    let p = c .before .before .before .before .before .before .args in
+    let stage = c .before .before .before .stage .ensures in
+    let n : ℕ = length (p .sound .now) in
+    let room : ℕ = length (p .frame .now) in
+    let rest =
+    reached (not (eqb n (p .self .length))) wrongSound
+    (λ same. ap (λ (due : ℕ). cond (ltb room due) noRoom accepted)
+    (stage .3 (p .sound .now) (eqb-true n (p .self .length) (not-false _ same)))) in
+    c .transfer-fault .ensures
+    ∙ (λ i. cond (not (stage .0 i)) outOfRule (cond (not (stage .1 i)) noTransfer (rest i)))
 
-not-sent-requires : tie.Need-not-sent-requires
-not-sent-requires c κs = search needs
+-- no rule is broken
+right : (c : tie.Else1) → let p = c .before .before .before .before .before .before .before .args in
+    let due = dueIn trivium (p .self) (p .sound .now) (p .self .phase) in
+    AllRight (sendFaults (p .self) (p .sound .now) (length due) (length (p .frame .now)))
+right c = none-wrong _ tt (sym (fault-is (c .before)) ∙ c .if1 .left)
 
 returns : tie.Need-returns
 unfolding sending
-returns c =
-    let test = c .before .before in
-    let p = test .before .before .before .args in
-    let out : senderInRule (p .self) ≡ false = sym (test .in-rule .ensures) ∙ not-true _ (c .before .if1 .taken) in
-    ap (λ (r : Sent). outcome r (p .frame .now)) (c .not-sent .ensures) ∙ rw out
+returns c = settled-left _ _ _ _ (c .if1 .taken) (fault-is (c .before))
 
-enum-told : tie.Need-enum-told
-enum-told c = search needs
-
-not-sent-requires-2 : tie.Need-not-sent-requires-2
-not-sent-requires-2 c κs = search needs
-
-enum-told-2 : tie.Need-enum-told-2
-enum-told-2 c = search needs
-
-send-opening-requires : tie.Need-send-opening-requires
-send-opening-requires c κs = search needs
-
-enum-known-phase : tie.Need-enum-known-phase
-enum-known-phase c = search needs
-
-send-block-requires : tie.Need-send-block-requires
-send-block-requires c κs =
-    let test = c .before .before .before .before in
-    known-below (test .before .before .before .before .args .self) (c .before .before .phase .given .0 .0) (within test) (c .before .before .phase .given .1)
-
-enum-told-3 : tie.Need-enum-told-3
-enum-told-3 c = search needs
-
-not-sent-requires-3 : tie.Need-not-sent-requires-3
-not-sent-requires-3 c κs = search needs
-
-enum-told-4 : tie.Need-enum-told-4
-enum-told-4 c = search needs
-
-not-sent-requires-4 : tie.Need-not-sent-requires-4
-not-sent-requires-4 c κs = search needs
+cast-known : tie.Need-cast-known
+cast-known c =
+    let e = c .before in
+    let stage = e .before .before .before .before in
+    let few = news-below (stage .before .before .before .args .self) (right e .0) in
+    omega (arith, stage .stage .ensures .2)
 
 returns-2 : tie.Need-returns-2
-unfolding sending sentIn
+unfolding dueIn
 returns-2 c =
-    let test = c .before .before .before in
-    let p = test .before .before .before .before .args in
-    ap (λ (r : Sent). outcome r (p .frame .now)) (c .not-sent2 .ensures)
-    ∙ ap (sentIn trivium (p .self) (p .sound .now) (p .frame .now)) (sym (c .before .enum-told .given .1))
-    ∙ rw (within test)
-
-same-length : tie.Need-same-length
-same-length c = search needs
+    let call = c .before .before in
+    let none = call .before .before .before in
+    let stage = none .before .before .before .before .before in
+    let p = stage .before .before .before .args in
+    let s = p .self in
+    let all = right (none .before) in
+    let phase = opening-if (s .phase) (all .1 .0) (sym (stage .stage .ensures .2) ∙ none .if2 .taken) in
+    sent-so trivium s (p .sound .now) (p .frame .now) all (stage .stage .ensures .3 (p .sound .now) (all .1 .1 .0))
+    (call .write-short .ensures
+    ∙ ap (put (p .frame .now) 0)
+    (short-opening (s .session) (s .length) ∙ ap (dueIn trivium s (p .sound .now)) (sym phase)))
 
 returns-3 : tie.Need-returns-3
-unfolding sending sentIn
+unfolding dueIn
 returns-3 c =
-    let test = c .before .before .before .before .before .before in
-    let p = test .before .before .before .before .args in
-    c .before .before .send-opening .ensures
-    ∙ ap (sentIn trivium (p .self) (p .sound .now) (p .frame .now)) (sym (c .before .before .before .before .enum-told2 .given .1))
-    ∙ rw (within test)
-
-same-length-2 : tie.Need-same-length-2
-same-length-2 c = search needs
-
-returns-4 : tie.Need-returns-4
-unfolding sending sentIn
-returns-4 c =
-    let test = c .before .before .before .before .before .before .before in
-    let p = test .before .before .before .before .args in
-    c .before .before .send-block .ensures
-    ∙ ap (sentIn trivium (p .self) (p .sound .now) (p .frame .now)) (sym (c .before .before .before .before .before .phase .given .1))
-    ∙ rw (within test)
-
-returns-5 : tie.Need-returns-5
-unfolding sending sentIn
-returns-5 c =
-    let test = c .before .before .before in
-    let p = test .before .before .before .before .args in
-    ap (λ (r : Sent). outcome r (p .frame .now)) (c .not-sent3 .ensures)
-    ∙ ap (sentIn trivium (p .self) (p .sound .now) (p .frame .now)) (sym (c .before .enum-told3 .given .1))
-    ∙ rw (within test)
-
-returns-6 : tie.Need-returns-6
-unfolding sending sentIn
-returns-6 c =
-    let test = c .before .before .before in
-    let p = test .before .before .before .before .args in
-    ap (λ (r : Sent). outcome r (p .frame .now)) (c .not-sent4 .ensures)
-    ∙ ap (sentIn trivium (p .self) (p .sound .now) (p .frame .now)) (sym (c .before .enum-told4 .given .1))
-    ∙ rw (within test)
+    let call = c .before .before in
+    let other = call .before .before .before .before .before .before in
+    let stage = other .before .before .before .before .before in
+    let p = stage .before .before .before .args in
+    let s = p .self in
+    let all = right (other .before) in
+    let news = stage .stage .ensures .2 in
+    let k : ℕ = stage .stage .result .«new_count» - 1 in
+    let phase : s .phase ≡ Sending k =
+    sending-if (s .phase) (all .1 .0) (omega arith) ∙ ap (λ (n : ℕ). Sending (n - 1)) (sym news) in
+    sent-so trivium s (p .sound .now) (p .frame .now) all (stage .stage .ensures .3 (p .sound .now) (all .1 .1 .0))
+    (call .write-block .ensures
+    ∙ ap (λ (p′ : Phase). put (p .frame .now) 0 (dueIn trivium s (p .sound .now) p′)) (sym phase))
 
 pub send-spec : {M : Type 1} → statement M
 send-spec =
     tie.close
-    (tie.spec
-    in-rule-requires
-    not-sent-requires
-    returns
-    enum-told
-    not-sent-requires-2
-    enum-told-2
-    send-opening-requires
-    enum-known-phase
-    send-block-requires
-    enum-told-3
-    not-sent-requires-3
-    enum-told-4
-    not-sent-requires-4
-    returns-2
-    same-length
-    returns-3
-    same-length-2
-    returns-4
-    returns-5
-    returns-6)
+    (tie.spec (λ c κs. tt) (λ c. search needs) (λ c κs. tt) returns (λ c. search needs) (λ c κs. tt) (λ c. search needs)
+    cast-known (λ c κs. tt) (λ c. search needs) returns-2 (λ c. search needs) returns-3)

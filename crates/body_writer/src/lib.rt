@@ -1,0 +1,107 @@
+// The body of a pack, apart from its faults: samples, written as enciphered bytes.
+ghost use mathlib.Core.Path.{_≡_};
+ghost use Prim.Native.Nat.{_+_, _*_, _-_, _≤_};
+ghost use lib.ListN.{length, drop};
+ghost use Rattle.octets.specs.Buffers.{slice, put};
+ghost use Rattle.octets.specs.Digits.{number, digits};
+ghost use Rattle.octets.specs.Stream.{enciphered};
+ghost use Rattle.samples.specs.Words.{bytesOfAll};
+ghost use Rattle.trivium.specs.Keystream.{keystream};
+ghost use Rattle.trivium.specs.Record.{state};
+ghost use Rattle.trivium.specs.Registers.{steps};
+use trivium::Registers;
+use trivium::Running;
+
+// The word that the bytes of four samples from `from` make. They are put together from the lowest on, for the compiler
+// to load all four at once, and then turned.
+fn four_bits(samples: &[i16], from: usize) -> u64
+    requires { ⌜ from + 4 ≤ length (now samples) ⌝ }
+    ensures { λ r. ⌜ r ≡ number 256 (bytesOfAll (slice (now (samples .entry)) from 4)) ⌝ }
+{
+    let first = samples::bits(samples[from]) as u64;
+    let second = samples::bits(samples[from + 1]) as u64;
+    let third = samples::bits(samples[from + 2]) as u64;
+    let fourth = samples::bits(samples[from + 3]) as u64;
+    samples::turned(fourth * 281474976710656 + third * 4294967296 + second * 65536 + first)
+}
+
+// The eight bytes of a word, at their place. `octet_writer::write_number` would look for room again at each turn of the loop.
+fn put_word(output: &mut [u8], at: usize, word: u64)
+    requires { ⌜ at + 8 ≤ length (now output) ⌝ }
+    ensures { λ _. ⌜ now (output .exit) ≡ put (now (output .entry)) at (digits 256 8 word) ⌝ }
+{
+    output[at] = ((word >> 56) % 256) as u8;
+    output[at + 1] = ((word >> 48) % 256) as u8;
+    output[at + 2] = ((word >> 40) % 256) as u8;
+    output[at + 3] = ((word >> 32) % 256) as u8;
+    output[at + 4] = ((word >> 24) % 256) as u8;
+    output[at + 5] = ((word >> 16) % 256) as u8;
+    output[at + 6] = ((word >> 8) % 256) as u8;
+    output[at + 7] = (word % 256) as u8;
+}
+
+// Eight samples from `from`, as bytes and enciphered, to their place, by two strides of the cipher: no byte is stored
+// between. In this order the compiler keeps the fewest values on the stack.
+fn write_chunk(
+    running: Running,
+    samples: &[i16],
+    output: &mut [u8],
+    from: usize,
+    at: usize,
+) -> Running
+    requires { ⌜ (from + 8 ≤ length (now samples)) × (at + 16 ≤ length (now output)) ⌝ }
+    ensures { λ r. ⌜ (state (r .registers) ≡ steps 128 (state (running .registers)))
+        × (now (output .exit) ≡ put (now (output .entry)) at
+        (enciphered (keystream (state (running .registers))) (bytesOfAll (slice (now (samples .entry)) from 8)))) ⌝ }
+{
+    let first = four_bits(samples, from);
+    let one = running.stride();
+    let covered = first ^ one.word;
+    let two = one.next.stride();
+    put_word(output, at, covered);
+    let second = four_bits(samples, from + 4);
+    put_word(output, at + 8, second ^ two.word);
+    two.next
+}
+
+// Room for the bytes of the samples behind the last chunk. Its length is all that anybody needs to know of it.
+fn blank() -> [u8; 16]
+    ensures { λ r. ⌜ 16 ≡ length r ⌝ }
+{
+    [0; 16]
+}
+
+// The samples from `from` behind the last chunk, as bytes and enciphered, to their place.
+fn write_rest(registers: Registers, samples: &[i16], output: &mut [u8], from: usize, at: usize)
+    requires { ⌜ (from ≤ length (now samples)) × (length (now samples) ≤ from + 8)
+        × (at + 2 * (length (now samples) - from) ≤ length (now output)) ⌝ }
+    ensures { λ _. ⌜ now (output .exit) ≡ put (now (output .entry)) at
+        (enciphered (keystream (state registers)) (bytesOfAll (drop from (now (samples .entry))))) ⌝ }
+{
+    let mut chunk = blank();
+    sample_runs::write_words(&samples[from..], &mut chunk);
+    let bytes = 2 * (samples.len() - from);
+    registers.encipher(octets::slice(&chunk, 0, bytes), &mut output[at..]);
+}
+
+// All samples, as bytes and enciphered, from `at`, if they have room there. What is done is counted in bytes: one index
+// serves both runs.
+pub fn write_samples(registers: Registers, samples: &[i16], output: &mut [u8], at: usize)
+    ensures { λ _. ⌜ now (output .exit)
+        ≡ put (now (output .entry)) at (enciphered (keystream (state registers)) (bytesOfAll (now (samples .entry)))) ⌝ }
+{
+    let n = 2 * samples.len();
+    if output.len() < at {
+        return;
+    }
+    if output.len() - at < n {
+        return;
+    }
+    let mut running = Running { registers };
+    let mut done = 0;
+    while done + 16 <= n {
+        running = write_chunk(running, samples, output, done / 2, at + done);
+        done += 16;
+    }
+    write_rest(running.registers, samples, output, done / 2, at + done);
+}

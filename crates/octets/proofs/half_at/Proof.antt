@@ -1,0 +1,52 @@
+-- `octets::half_at` meets its contract: four bytes, each scaled by its place, make their number.
+use mathlib.Core.{Path._≡_, Path.ap, Path._∙_, List.List, List.[], List._∷_}
+use Prim.Native.Nat.{ℕ, _+_, _*_, _<_}
+use native.Mathlib.Omega.{arith}
+use borrow.Author.Needs.{needs}
+use lib.ListN.{getD}
+use Rattle.octets.specs.Digits.{number, numberAfter}
+use Rattle.octets.proofs.{Slices.slice-read, half_at.Statement.statement}
+use Rattle.octets.proofs.half_at.Tie as tie
+
+four : (x y z w : ℕ) → x * 16777216 + y * 65536 + z * 256 + w ≡ number 256 (x ∷ y ∷ z ∷ w ∷ [])
+unfolding numberAfter
+four x y z w = omega arith
+
+-- the four that are read are bytes
+record Four (s : List ℕ) (at : ℕ) : Type 0 where
+  first : getD s at 0 < 256
+  second : getD s (at + 1) 0 < 256
+  third : getD s (at + 2) 0 < 256
+  fourth : getD s (at + 3) 0 < 256
+
+these : (c : tie.After-shared-slice-known4)
+    → let p = c .before .before .before .before .args in Four (p .s .now) (p .at)
+these c =
+    let at : ℕ = c .before .before .before .before .args .at in
+    record {
+      first = omega (arith, c .shared-slice-known4 .given at);
+      second = omega (arith, c .shared-slice-known4 .given (at + 1));
+      third = omega (arith, c .shared-slice-known4 .given (at + 2));
+      fourth = omega (arith, c .shared-slice-known4 .given (at + 3));
+    }
+
+returns : tie.Need-returns
+returns c =
+    let p = c .before .before .before .before .args in
+    let s : List ℕ = p .s .now in
+    four (getD s (p .at) 0) (getD s (p .at + 1) 0) (getD s (p .at + 2) 0) (getD s (p .at + 3) 0)
+    ∙ ap (number 256) (slice-read s (p .at) 3 0 (c .before .before .before .before .pre))
+
+pub half-at-spec : {M : Type 1} → statement M
+half-at-spec =
+    tie.close
+    (tie.spec (λ c. search needs) (λ c. omega (arith, c .shared-slice-known .given (c .before .args .at)))
+    (λ c. search needs)
+    (λ c. search needs) (λ c. omega (arith, c .shared-slice-known2 .given (c .before .before .args .at + 1)))
+    (λ c. search needs)
+    (λ c. search needs) (λ c. omega (arith, c .shared-slice-known3 .given (c .before .before .before .args .at + 2)))
+    (λ c. search needs) (λ c. search needs)
+    (λ c. omega (arith, c .shared-slice-known4 .given (c .before .before .before .before .args .at + 3)))
+    (λ c. omega (arith, these c)) (λ c. omega (arith, these c)) (λ c. omega (arith, these c))
+    (λ c. omega (arith, these c))
+    (λ c. omega (arith, these c)) (λ c. omega (arith, these c)) returns)

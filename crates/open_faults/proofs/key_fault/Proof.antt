@@ -1,0 +1,35 @@
+-- `open_faults::key_fault` meets its contract: the tests are the rules, one after the other, and then the samples'
+-- rules decide.
+use mathlib.Core.Path.{_∙_}
+use native.Mathlib.Omega.{arith}
+use borrow.Author.Needs.{needs}
+use Rattle.refusals.proofs.Faults.{first-from, refused-at}
+use Rattle.pack.specs.Faults.{faultsFromKey}
+use Rattle.open_faults.proofs.key_fault.Statement.{statement}
+use Rattle.open_faults.proofs.key_fault.Tie as tie
+
+returns : tie.Need-returns
+unfolding faultsFromKey
+returns c = refused-at 0 _ (omega arith)
+
+returns-2 : tie.Need-returns-2
+unfolding faultsFromKey
+returns-2 c = refused-at 1 _ (omega arith)
+
+returns-3 : tie.Need-returns-3
+unfolding faultsFromKey
+returns-3 c = refused-at 2 _ (omega arith)
+
+returns-4 : tie.Need-returns-4
+unfolding faultsFromKey
+returns-4 c = refused-at 3 _ (omega arith)
+
+returns-5 : tie.Need-returns-5
+unfolding faultsFromKey
+returns-5 c = c .sample-fault .ensures ∙ first-from 4 _ (omega arith)
+
+pub key-fault-spec : {M : Type 1} → statement M
+key-fault-spec =
+    tie.close
+    (tie.spec (λ c. search needs) returns (λ c. search needs) returns-2 (λ c. search needs) (λ c. search needs)
+    returns-3 (λ c. search needs) (λ c. search needs) returns-4 (λ c κs. search needs) returns-5)

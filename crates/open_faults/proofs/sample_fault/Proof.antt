@@ -1,0 +1,38 @@
+-- `open_faults::sample_fault` meets its contract: the tests are the rules, one after the other, and then the loops'
+-- rules decide.
+use mathlib.Core.Path.{ap, _∙_}
+use Prim.Native.Nat.{ℕ, _+_, _*_}
+use native.Mathlib.Omega.{arith}
+use borrow.Author.Needs.{needs}
+use Rattle.refusals.specs.Rules.{first}
+use Rattle.refusals.proofs.Faults.{first-from, refused-at}
+use Rattle.pack.specs.Faults.{loopSectionFaults, faultsFromSamples}
+use Rattle.open_faults.proofs.sample_fault.Statement.{statement}
+use Rattle.open_faults.proofs.sample_fault.Tie as tie
+
+returns : tie.Need-returns
+unfolding faultsFromSamples
+returns c = refused-at 0 _ (omega arith)
+
+returns-2 : tie.Need-returns-2
+unfolding faultsFromSamples
+returns-2 c = refused-at 1 _ (omega arith)
+
+returns-3 : tie.Need-returns-3
+unfolding faultsFromSamples
+returns-3 c = refused-at 2 _ (omega arith)
+
+returns-4 : tie.Need-returns-4
+unfolding faultsFromSamples
+returns-4 c =
+    let read = c .before .before .before in
+    let p = read .before .before .before .args in
+    c .loop-fault .ensures
+    ∙ ap (λ (n : ℕ). first (loopSectionFaults (p .file .now) (p .at + 4 + 2 * n) n)) (read .four-at .ensures)
+    ∙ first-from 3 _ (omega arith)
+
+pub sample-fault-spec : {M : Type 1} → statement M
+sample-fault-spec =
+    tie.close
+    (tie.spec (λ c. search needs) returns (λ c κs. search needs) (λ c. search needs) returns-2 (λ c. search needs)
+    (λ c. search needs) (λ c. search needs) returns-3 (λ c κs. search needs) returns-4)

@@ -1,0 +1,115 @@
+// What a file has wrong: the rules on a pack in their order, apart from what is done with one that is right.
+ghost use mathlib.Core.Path.{_≡_};
+ghost use Prim.Native.Nat.{_+_, _*_, _≤_};
+ghost use lib.ListN.{length};
+ghost use Rattle.octets.specs.Rows.{numbersAt};
+ghost use Rattle.pack.specs.Faults.{loopSectionFaults, faultsFromSamples, faultsFromKey, fileFaults};
+ghost use Rattle.pack.specs.Layout.{loopsGood, fours};
+ghost use Rattle.refusals.specs.Rules.{first};
+ghost use Rattle.trivium.specs.Keystream as Keystream;
+
+// Whether each of so many loops from `at` is in rule.
+fn loops_good(file: &[u8], at: usize, count: usize, samples: usize) -> bool
+    requires { ⌜ at + 8 * count ≤ length (now file) ⌝ }
+    ensures { λ r. ⌜ r ≡ loopsGood samples (numbersAt (fours (2 * count)) (now (file .entry)) at) ⌝ }
+{
+    let mut i = 0;
+    while i < count {
+        let start = octets::four_at(file, at + 8 * i) as usize;
+        let end = octets::four_at(file, at + 8 * i + 4) as usize;
+        if end <= start {
+            return false;
+        }
+        if samples < end {
+            return false;
+        }
+        i += 1;
+    }
+    true
+}
+
+// What a file has wrong from its loop section on, which begins at `at`.
+fn loop_fault(file: &[u8], at: usize, samples: usize) -> u8
+    requires { ⌜ at ≤ length (now file) ⌝ }
+    ensures { λ r. ⌜ r ≡ first (loopSectionFaults (now (file .entry)) at samples) ⌝ }
+{
+    if file.len() < at + 1 {
+        return refusals::CUT_SHORT;
+    }
+    let count = file[at] as usize;
+    if pack::MOST_LOOPS < count {
+        return refusals::MANY_LOOPS;
+    }
+    let end = at + 1 + 8 * count;
+    if file.len() < end {
+        return refusals::CUT_SHORT;
+    }
+    if loops_good(file, at + 1, count, samples) {
+        if end < file.len() {
+            return refusals::MORE_BYTES;
+        }
+        return refusals::ACCEPTED;
+    }
+    refusals::BAD_LOOP
+}
+
+// What a file has wrong from its sample section on, which begins at `at`.
+fn sample_fault(file: &[u8], at: usize) -> u8
+    requires { ⌜ at ≤ length (now file) ⌝ }
+    ensures { λ r. ⌜ r ≡ first (faultsFromSamples (now (file .entry)) at) ⌝ }
+{
+    if file.len() < at + 4 {
+        return refusals::CUT_SHORT;
+    }
+    let count = octets::four_at(file, at) as usize;
+    if pack::MOST_SAMPLES < count {
+        return refusals::MANY_SAMPLES;
+    }
+    let end = at + 4 + 2 * count;
+    if file.len() < end {
+        return refusals::CUT_SHORT;
+    }
+    loop_fault(file, end, count)
+}
+
+// What a file has wrong from its key section on, which begins at `at`.
+fn key_fault(file: &[u8], at: usize) -> u8
+    requires { ⌜ at ≤ length (now file) ⌝ }
+    ensures { λ r. ⌜ r ≡ first (faultsFromKey Keystream.trivium (now (file .entry)) at) ⌝ }
+{
+    if file.len() < at + 1 {
+        return refusals::CUT_SHORT;
+    }
+    if file[at] != pack::KEY_COUNT {
+        return refusals::BAD_KEY_COUNT;
+    }
+    let end = at + 2 + trivium::VALUE_BYTES;
+    if file.len() < end {
+        return refusals::CUT_SHORT;
+    }
+    if pack::LAST_KEY < file[at + 1] {
+        return refusals::BAD_KEY_NUMBER;
+    }
+    sample_fault(file, end)
+}
+
+// What a file has wrong, from its name on: each section goes on to the one behind it.
+pub fn file_fault(file: &[u8]) -> u8
+    ensures { λ r. ⌜ r ≡ first (fileFaults Keystream.trivium (now (file .entry))) ⌝ }
+{
+    if file.len() < 1 {
+        return refusals::CUT_SHORT;
+    }
+    let count = file[0] as usize;
+    if pack::MOST_NAME < count {
+        return refusals::LONG_NAME;
+    }
+    let end = 1 + count;
+    if file.len() < end {
+        return refusals::CUT_SHORT;
+    }
+    if pack::name_good(octets::slice(file, 1, count)) {
+        return key_fault(file, end);
+    }
+    refusals::BAD_NAME
+}

@@ -1,0 +1,212 @@
+-- A layout of parts within their limits is accepted, and gives the parts back: each section stands where the counts
+-- before it say.
+use Prim.Native.Nat.{ℕ, suc, _+_, _*_, _/_, _^_}
+use mathlib.Core.Bool.{true}
+use mathlib.Core.List.{List, [], _∷_, _++_, append-assoc, append-nil}
+use mathlib.Core.Path.{_≡_, refl, sym, ap, _∙_}
+use native.Mathlib.{Nat.add-zero, Omega.arith}
+use lib.ListN.{length, getD, take, drop, length-append, take-append-drop}
+use lib.Seq.{getD-drop, drop-drop, take-at, drop-at, length-take-le}
+use Rattle.octets.specs.Buffers.{slice}
+use Rattle.octets.specs.Rows.{row, numbersAt, Fits}
+use Rattle.octets.specs.Stream.{Cipher, Keystream, enciphered}
+use Rattle.octets.proofs.Rows.{length-row, length-equal, numbers-back, fits-equal}
+use Rattle.octets.proofs.Streams.{length-enciphered, enciphered-twice}
+use Rattle.refusals.specs.Rules.{AllRight}
+use Rattle.samples.specs.Words.{wordsOf, bytesOfAll}
+use Rattle.samples.proofs.Words.{length-bytes, words-of-bytes}
+use Rattle.pack.specs.Faults.{loopSectionFaults, faultsFromSamples, faultsFromKey, fileFaults}
+use Rattle.pack.specs.Layout.{Parts, Within, nameGood, loopsGood, fours, keyNamed, layout, keySection}
+use Rattle.pack.specs.Layout.{sampleSection, loopSection}
+use Rattle.pack.specs.Places.{byteAt, nameCount, keyPlace, keyNumber, valuePlace, samplePlace, sampleCount}
+use Rattle.pack.specs.Places.{bodyPlace, loopPlace, loopCount, loopsPlace, partsOf}
+use Rattle.pack.proofs.Loops.{loops-small, loops-even}
+
+-- how long a file is
+pub length-layout : (cipher : Cipher) (ring : List (List ℕ)) (p : Parts)
+    → length (layout cipher ring p)
+    ≡ 8 + length (p .name) + length (p .value) + 2 * length (p .samples) + 4 * length (p .loops)
+unfolding layout
+length-layout cipher ring p =
+    let k : Keystream = cipher .stream (keyNamed ring (p .keyNumber)) (p .value) in
+    let body = length-enciphered k (bytesOfAll (p .samples)) ∙ length-bytes (p .samples) in
+    let loops = length-row (fours (length (p .loops))) (p .loops) ∙ length-equal (length (p .loops)) 4 in
+    simp length-append (omega (arith, length-row (fours 1) (length (p .samples) ∷ [])))
+
+-- ---- what stands from a place on, to the end
+
+record Tail (file : List ℕ) (at : ℕ) (rest : List ℕ) : Type 0 where
+  is : drop at file ≡ rest
+  room : at + length rest ≡ length file
+
+tail-byte : {file : List ℕ} {at x : ℕ} {rest : List ℕ} → Tail file at (x ∷ rest) → byteAt file at ≡ x
+tail-byte {file} {at} t =
+    ap (λ (n : ℕ). getD file n 0) (sym (add-zero at)) ∙ sym (getD-drop at file 0 0)
+    ∙ ap (λ (l : List ℕ). getD l 0 0) (t .is)
+
+module _ {file : List ℕ} {at : ℕ} (run rest : List ℕ) (n : ℕ) (e : length run ≡ n)
+    (t : Tail file at (run ++ rest)) where
+  tail-run : slice file at n ≡ run
+  tail-run = ap (take n) (t .is) ∙ take-at run rest n e
+
+  tail-next : Tail file (at + n) rest
+  tail-next =
+      record {
+        is = sym (drop-drop n at file) ∙ ap (drop n) (t .is) ∙ drop-at run rest n e;
+        room = omega (arith, length-append run rest, t .room);
+      }
+
+tail-row : {file : List ℕ} {at : ℕ} (widths numbers rest : List ℕ) → Fits widths numbers
+    → Tail file at (row widths numbers ++ rest)
+    → numbersAt widths file at ≡ numbers
+tail-row {file} {at} widths numbers rest fits t =
+    ap (λ (l : List ℕ). numbersAt widths l at)
+    (sym (take-append-drop at file) ∙ ap (λ (l : List ℕ). take at file ++ l) (t .is))
+    ∙ numbers-back widths numbers (take at file) rest at (length-take-le at file (omega (arith, t .room))) fits
+
+-- ---- each section where it stands: it gives back what was laid, and is right if what follows it is
+
+module _ (cipher : Cipher) (ring : List (List ℕ)) (p : Parts) (w : Within cipher p) (file : List ℕ)
+    (t : Tail file 0 (layout cipher ring p)) where
+  abbrev stream : Keystream
+  stream = cipher .stream (keyNamed ring (p .keyNumber)) (p .value)
+
+  abbrev body : List ℕ
+  body = enciphered stream (bytesOfAll (p .samples))
+
+  -- what is laid behind the name, and behind the key
+  abbrev behindKey : List ℕ
+  behindKey = sampleSection cipher ring p ++ loopSection p
+
+  abbrev behindName : List ℕ
+  behindName = keySection cipher p ++ behindKey
+
+  name-count : length (p .name) ≡ nameCount file
+  unfolding layout
+  name-count = sym (tail-byte t)
+
+  name-there : Tail file 1 (p .name ++ behindName)
+  unfolding layout
+  name-there = tail-next (length (p .name) ∷ []) (p .name ++ behindName) 1 refl t
+
+  name-laid : slice file 1 (nameCount file) ≡ p .name
+  name-laid = tail-run (p .name) behindName (nameCount file) name-count name-there
+
+  key-there : Tail file (keyPlace file) behindName
+  key-there = tail-next (p .name) behindName (nameCount file) name-count name-there
+
+  name-right : AllRight (faultsFromKey cipher file (keyPlace file)) → AllRight (fileFaults cipher file)
+  unfolding fileFaults
+  name-right more =
+      let h = key-there .room in (
+        omega arith,
+        (omega (arith, name-count, w .nameCount), (omega arith, (ap nameGood name-laid ∙ w .nameBytes, more))),
+      )
+
+  number-laid : keyNumber file ≡ p .keyNumber
+  number-laid =
+      tail-byte (tail-next (suc (cipher .valueBytes) ∷ []) (p .keyNumber ∷ p .value ++ behindKey) 1 refl key-there)
+
+  value-there : Tail file (valuePlace file) (p .value ++ behindKey)
+  value-there = tail-next (suc (cipher .valueBytes) ∷ p .keyNumber ∷ []) (p .value ++ behindKey) 2 refl key-there
+
+  value-laid : slice file (valuePlace file) (cipher .valueBytes) ≡ p .value
+  value-laid = tail-run (p .value) behindKey (cipher .valueBytes) (w .valueCount) value-there
+
+  count-there : Tail file (samplePlace cipher file)
+      (row (fours 1) (length (p .samples) ∷ []) ++ (body ++ loopSection p))
+  count-there = rw append-assoc at (tail-next (p .value) behindKey (cipher .valueBytes) (w .valueCount) value-there)
+
+  key-right : AllRight (faultsFromSamples file (samplePlace cipher file))
+      → AllRight (faultsFromKey cipher file (keyPlace file))
+  unfolding faultsFromKey
+  key-right more =
+      let h = count-there .room in
+      (omega arith, (tail-byte key-there, (omega arith, (omega (arith, number-laid, w .keyNumber), more))))
+
+  count-laid : sampleCount cipher file ≡ length (p .samples)
+  unfolding numbersAt
+  count-laid =
+      ap (λ (l : List ℕ). getD l 0 0)
+      (tail-row (fours 1) (length (p .samples) ∷ []) (body ++ loopSection p)
+      (omega (arith, w .sampleCount)) count-there)
+
+  body-there : Tail file (bodyPlace cipher file) (body ++ loopSection p)
+  body-there =
+      tail-next (row (fours 1) (length (p .samples) ∷ [])) (body ++ loopSection p) 4
+      (length-row (fours 1) (length (p .samples) ∷ [])) count-there
+
+  body-size : length body ≡ 2 * sampleCount cipher file
+  body-size =
+      length-enciphered stream (bytesOfAll (p .samples)) ∙ length-bytes (p .samples)
+      ∙ ap (λ (n : ℕ). 2 * n) (sym count-laid)
+
+  body-laid : slice file (bodyPlace cipher file) (2 * sampleCount cipher file) ≡ body
+  body-laid = tail-run body (loopSection p) (2 * sampleCount cipher file) body-size body-there
+
+  loop-there : Tail file (loopPlace cipher file) (loopSection p)
+  loop-there = tail-next body (loopSection p) (2 * sampleCount cipher file) body-size body-there
+
+  sample-right : AllRight (loopSectionFaults file (loopPlace cipher file) (sampleCount cipher file))
+      → AllRight (faultsFromSamples file (samplePlace cipher file))
+  unfolding faultsFromSamples
+  sample-right more =
+      let h = loop-there .room in (omega arith, (omega (arith, count-laid, w .sampleCount), (omega arith, more)))
+
+  loops-good : loopsGood (sampleCount cipher file) (p .loops) ≡ true
+  loops-good = ap (λ (n : ℕ). loopsGood n (p .loops)) count-laid ∙ w .loops
+
+  loop-count : 2 * loopCount cipher file ≡ length (p .loops)
+  loop-count = omega (arith, tail-byte loop-there, loops-even (length (p .samples)) (p .loops) (w .loops))
+
+  loops-laid : numbersAt (fours (2 * loopCount cipher file)) file (loopsPlace cipher file) ≡ p .loops
+  loops-laid =
+      let run : List ℕ = row (fours (length (p .loops))) (p .loops) in
+      let small = loops-small (length (p .samples)) (256 ^ 4) (p .loops) (omega (arith, w .sampleCount)) (w .loops) in
+      let there : Tail file (loopsPlace cipher file) (run ++ []) =
+      rw (append-nil run) (tail-next (length (p .loops) / 2 ∷ []) run 1 refl loop-there) in
+      ap (λ (n : ℕ). numbersAt (fours n) file (loopsPlace cipher file)) loop-count
+      ∙ tail-row (fours (length (p .loops))) (p .loops) [] (fits-equal 4 (p .loops) small) there
+
+  loop-right : AllRight (loopSectionFaults file (loopPlace cipher file) (sampleCount cipher file))
+  loop-right =
+      let size : loopPlace cipher file + 1 + 8 * loopCount cipher file ≡ length file =
+      omega (
+        arith,
+        loop-there .room,
+        loop-count,
+        length-row (fours (length (p .loops))) (p .loops),
+        length-equal
+            (length (p .loops)) 4,
+      ) in (
+        omega arith,
+        (
+          omega (arith, loop-count, w .loopCount),
+          (omega arith, (ap (loopsGood (sampleCount cipher file)) loops-laid ∙ loops-good, (omega arith, tt))),
+        ),
+      )
+
+  samples-laid : partsOf cipher ring file .samples ≡ p .samples
+  unfolding partsOf
+  samples-laid =
+      (λ i. wordsOf (enciphered (cipher .stream (keyNamed ring (number-laid i)) (value-laid i)) (body-laid i)))
+      ∙ ap wordsOf (enciphered-twice stream (bytesOfAll (p .samples)))
+      ∙ words-of-bytes (p .samples) (w .sampleBits)
+
+  laid : AllRight (fileFaults cipher file) × (partsOf cipher ring file ≡ p)
+  unfolding partsOf
+  laid = (
+    name-right (key-right (sample-right loop-right)),
+    λ i.
+        record {
+          name = name-laid i;
+          keyNumber = number-laid i;
+          value = value-laid i;
+          samples = samples-laid i;
+          loops = loops-laid i;
+        },
+  )
+
+pub layout-accepted : (cipher : Cipher) (ring : List (List ℕ)) (p : Parts) → Within cipher p
+    → AllRight (fileFaults cipher (layout cipher ring p)) × (partsOf cipher ring (layout cipher ring p) ≡ p)
+layout-accepted cipher ring p w = laid cipher ring p w (layout cipher ring p) (record { is = refl; room = omega arith })

@@ -1,0 +1,16 @@
+-- The limits of a pack's counts and numbers, each in one place.
+use Prim.Native.Nat.{ℕ}
+
+-- the longest name
+abbrev pub mostName : ℕ
+mostName = 32
+
+-- the highest key number: a ring has four keys
+abbrev pub lastKey : ℕ
+lastKey = 3
+
+abbrev pub mostSamples : ℕ
+mostSamples = 16384
+
+abbrev pub mostLoops : ℕ
+mostLoops = 8

@@ -1,0 +1,94 @@
+// Packs for callers in other languages, who lend the ring of keys as bytes. A refused call writes nothing of all that
+// it was lent.
+use pack::Opened;
+ghost use mathlib.Core.Path.{_≡_};
+ghost use mathlib.Core.List.{[], _∷_};
+ghost use Rattle.octets.specs.Buffers.{put};
+ghost use Rattle.pack.specs.Layout.{parts};
+ghost use Rattle.record_bytes.specs.Written.{wrote};
+ghost use Rattle.pack_bytes.specs.Calls.{answerNumbers, packOpened, packOpen, packSeal};
+
+// How many numbers tell what was opened.
+const OPENED_NUMBERS: usize = 7;
+
+// Writes what was opened to the front of a run, if it has room there.
+fn tell(answer: &mut [usize], opened: Opened)
+    ensures { λ _. ⌜ now (answer .exit) ≡ put (now (answer .entry)) 0 (answerNumbers opened) ⌝ }
+{
+    if answer.len() < OPENED_NUMBERS {
+        return;
+    }
+    let samples = opened.samples;
+    let key = opened.key;
+    let loops = opened.loops;
+    let name_length = opened.name_length;
+    let name_at = opened.name_at;
+    let value_at = opened.value_at;
+    let loops_at = opened.loops_at;
+    answer[0] = samples;
+    answer[1] = key as usize;
+    answer[2] = loops;
+    answer[3] = name_length;
+    answer[4] = name_at;
+    answer[5] = value_at;
+    answer[6] = loops_at;
+}
+
+pub fn open(file: &[u8], ring: &[u8], samples: &mut [i16], answer: &mut [usize]) -> u8
+    ensures { λ r. ⌜ packOpened (now (samples .exit)) (now (answer .exit)) r
+        ≡ packOpen (now (file .entry)) (now (ring .entry)) (now (samples .entry)) (now (answer .entry)) ⌝ }
+{
+    if ring.len() != pack::RING_BYTES {
+        return refusals::BAD_KEY;
+    }
+    if answer.len() < OPENED_NUMBERS {
+        let told = opener::survey(file);
+        let fault = told.refusal;
+        if fault != refusals::ACCEPTED {
+            return fault;
+        }
+        return refusals::NO_ROOM;
+    }
+    let opened = opener::open(file, pack::ring_of(ring), samples);
+    let refusal = opened.refusal;
+    if refusal != refusals::ACCEPTED {
+        return refusal;
+    }
+    tell(answer, opened);
+    refusals::ACCEPTED
+}
+
+pub fn seal(
+    name: &[u8],
+    ring: &[u8],
+    key: u8,
+    value: &[u8],
+    samples: &[i16],
+    loops: &[u32],
+    output: &mut [u8],
+    written: &mut usize,
+) -> u8
+    ensures { λ r. ⌜ wrote (now (output .exit)) (now (written .exit)) r
+        ≡ packSeal (now (ring .entry))
+        (parts (now (name .entry)) key (now (value .entry)) (now (samples .entry)) (now (loops .entry)))
+        (now (output .entry)) (now (written .entry)) ⌝ }
+{
+    if ring.len() != pack::RING_BYTES {
+        return refusals::BAD_KEY;
+    }
+    let sealed = sealer::seal(
+        name,
+        pack::ring_of(ring),
+        key,
+        value,
+        samples,
+        loops,
+        output,
+    );
+    let refusal = sealed.refusal;
+    if refusal != refusals::ACCEPTED {
+        return refusal;
+    }
+    *written = sealed.length;
+    refusals::ACCEPTED
+}

@@ -1,0 +1,33 @@
+-- `receiver::Receiver::take` meets its contract: the bytes lent as the block's are all from byte 8 on.
+use mathlib.Core.{Path._≡_, Path.ap, Path._∙_, List.List}
+use Prim.Native.Nat.{ℕ}
+use native.Mathlib.Omega.{arith}
+use borrow.Author.Needs.{needs}
+use lib.{ListN.length, ListN.drop, ListN.length-drop, Seq.take-all}
+use Rattle.octets.specs.Buffers.{slice, put}
+use Rattle.octets.proofs.Buffers.{length-put}
+use Rattle.trivium.specs.Keystream.{trivium}
+use Rattle.blocks.specs.{Blocks.place, Covering.covered}
+use Rattle.receiver.proofs.Receiver.take.Statement.{statement}
+use Rattle.receiver.proofs.Receiver.take.Tie as tie
+
+rest : (m : List ℕ) → slice m 8 (length m) ≡ drop 8 m
+rest m = take-all (length m) (drop 8 m) (simp length-drop (omega arith))
+
+same-length : tie.Need-same-length
+same-length c = ap length (c .before .before .cover .ensures) ∙ length-put _ _ _
+
+returns : tie.Need-returns
+returns c =
+    let call = c .before .before in
+    let p = c .before .before .before .before .before .before .before .before .before .before .before .args in
+    let r = p .self in
+    call .cover .ensures
+    ∙ ap (λ (run : List ℕ). put (p .sound .now) (place (r .count))
+    (covered trivium (r .key) (r .pair) (r .session) (r .count) run))
+    (call .before .before .before .before .slice .ensures ∙ rest (p .frame .now))
+
+pub take-spec : {M : Type 1} → statement M
+take-spec =
+    tie.close
+    (tie.spec (λ c κs. search needs) (λ c. search needs) (λ c. search needs) (λ c κs. search needs) same-length returns)

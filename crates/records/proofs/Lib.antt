@@ -1,4 +1,0 @@
-pub mod Back
-pub mod Reading
-pub mod Theorems
-pub mod Writing

@@ -1,0 +1,4 @@
+pub mod ByTurns
+pub mod Faults
+pub mod Settled
+pub mod Tests

@@ -1,0 +1,88 @@
+-- The numbers for no, each in one place. 0 is the number of a call that isn't refused.
+use Prim.Native.Nat.{ℕ}
+
+abbrev pub accepted : ℕ
+accepted = 0
+
+-- key not 10 bytes
+abbrev pub badKey : ℕ
+badKey = 1
+
+-- initial value not 10 bytes, or pair name not 6
+abbrev pub badValue : ℕ
+badValue = 2
+
+-- the C interface's own: bytes lent as a cipher that are not 48
+abbrev pub notACipher : ℕ
+notACipher = 3
+
+-- file ends inside a section
+abbrev pub cutShort : ℕ
+cutShort = 10
+
+-- name count over 32; a name byte outside 32..126
+abbrev pub longName : ℕ
+longName = 11
+
+abbrev pub badName : ℕ
+badName = 12
+
+-- key count not the cipher's; key number over 3
+abbrev pub badKeyCount : ℕ
+badKeyCount = 13
+
+abbrev pub badKeyNumber : ℕ
+badKeyNumber = 14
+
+-- sample count over 16,384
+abbrev pub manySamples : ℕ
+manySamples = 15
+
+-- loop count over 8, or an odd run in sealing
+abbrev pub manyLoops : ℕ
+manyLoops = 16
+
+-- a loop out of rule
+abbrev pub badLoop : ℕ
+badLoop = 17
+
+-- bytes after the loops
+abbrev pub moreBytes : ℕ
+moreBytes = 18
+
+-- output too short (link receiver: under 7 bytes)
+abbrev pub noRoom : ℕ
+noRoom = 19
+
+-- no session number left
+abbrev pub noSession : ℕ
+noSession = 20
+
+-- sound over 32,768 bytes
+abbrev pub longSound : ℕ
+longSound = 21
+
+-- no transfer under way
+abbrev pub noTransfer : ℕ
+noTransfer = 22
+
+-- lent sound not of the length begun; receiver's buffer shorter than the transfer, for a block
+abbrev pub wrongSound : ℕ
+wrongSound = 23
+
+-- not a frame for this end, or session 0, length over 32,768, or block count outside 1..64
+abbrev pub notAFrame : ℕ
+notAFrame = 24
+
+-- frame of another session (receiver: opening of a lower one)
+abbrev pub otherSession : ℕ
+otherSession = 25
+
+-- a count or block that can't be: Holds over k + 1, Holds over 0 while opening, Too long while sending, block number
+-- not below the blocks, byte count not that block's
+abbrev pub impossible : ℕ
+impossible = 26
+
+-- a link record out of rule
+abbrev pub outOfRule : ℕ
+outOfRule = 27

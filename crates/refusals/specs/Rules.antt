@@ -1,0 +1,56 @@
+-- How a call refuses: its rules stand in a list, each with the number for no, in the order in which they are looked at.
+-- The first that is broken decides; with none broken, the call does what it is for.
+use Prim.Native.Nat.{ℕ, _≤_}
+use mathlib.Core.{Bool.Bool, Bool.true, Bool.not, Bool.cond, List.List, List.[], List._∷_, Logic._≢_, Path._≡_}
+use lib.Dec.{eqb, ltb}
+use Rattle.refusals.specs.Numbers.{accepted}
+
+infix 30 _over_ _under_ _unlike_
+-- what can be wrong: a number over, under or unlike another, or a test that fails
+pub data Wrong : Type 0 where
+  _over_ : ℕ → ℕ → Wrong
+  _under_ : ℕ → ℕ → Wrong
+  _unlike_ : ℕ → ℕ → Wrong
+  unless : Bool → Wrong
+
+-- whether it is wrong
+abbrev pub broken : Wrong → Bool
+broken (x over limit) = ltb limit x
+broken (x under limit) = ltb x limit
+broken (x unlike y) = not (eqb x y)
+broken (unless test) = not test
+
+-- what holds where it isn't
+abbrev pub Right : Wrong → Type 0
+Right (x over limit) = x ≤ limit
+Right (x under limit) = limit ≤ x
+Right (x unlike y) = x ≡ y
+Right (unless test) = test ≡ true
+
+-- a rule, and the number for no if it is broken
+pub record Fault : Type 0 where
+  pub wrong : Wrong
+  pub number : ℕ
+
+infix 20 _says_
+abbrev pub _says_ : Wrong → ℕ → Fault
+w says n = record { wrong = w; number = n }
+
+-- no rule of the list is broken
+abbrev pub AllRight : List Fault → Type 0
+AllRight [] = Unit
+AllRight (f ∷ faults) = Right (f .wrong) × AllRight faults
+
+-- the number of the first rule that is broken
+unfoldable pub first : List Fault → ℕ
+first [] = accepted
+first (f ∷ faults) = cond (broken (f .wrong)) (f .number) (first faults)
+
+-- what a call comes to: what it does if no rule is broken, or else what a refusal with the first one's number leaves
+unfoldable pub settled : {A : Type 0} → List Fault → A → (ℕ → A) → A
+settled faults done left = cond (eqb (first faults) accepted) done (left (first faults))
+
+-- A refused call leaves everything as given: if its outcome has a number that isn't 0, then it is what `left` says of
+-- that number.
+abbrev pub Leaves : {A : Type 0} → (A → ℕ) → (ℕ → A) → A → Type 0
+Leaves number left outcome = number outcome ≢ accepted → outcome ≡ left (number outcome)

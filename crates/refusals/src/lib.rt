@@ -1,0 +1,44 @@
+// The numbers for no, for the code: what each says stands in specs/Numbers.antt.
+pub const ACCEPTED: u8 = 0;
+
+pub const BAD_KEY: u8 = 1;
+
+pub const BAD_VALUE: u8 = 2;
+
+pub const NOT_A_CIPHER: u8 = 3;
+
+pub const CUT_SHORT: u8 = 10;
+
+pub const LONG_NAME: u8 = 11;
+
+pub const BAD_NAME: u8 = 12;
+
+pub const BAD_KEY_COUNT: u8 = 13;
+
+pub const BAD_KEY_NUMBER: u8 = 14;
+
+pub const MANY_SAMPLES: u8 = 15;
+
+pub const MANY_LOOPS: u8 = 16;
+
+pub const BAD_LOOP: u8 = 17;
+
+pub const MORE_BYTES: u8 = 18;
+
+pub const NO_ROOM: u8 = 19;
+
+pub const NO_SESSION: u8 = 20;
+
+pub const LONG_SOUND: u8 = 21;
+
+pub const NO_TRANSFER: u8 = 22;
+
+pub const WRONG_SOUND: u8 = 23;
+
+pub const NOT_A_FRAME: u8 = 24;
+
+pub const OTHER_SESSION: u8 = 25;
+
+pub const IMPOSSIBLE: u8 = 26;
+
+pub const OUT_OF_RULE: u8 = 27;

@@ -1,0 +1,81 @@
+// What the parts of a pack have wrong: the rules on them in their order, apart from how they are written.
+ghost use mathlib.Core.Path.{_≡_};
+ghost use Prim.Native.Nat.{_+_, _*_, _%_, _≤_};
+ghost use lib.ListN.{length};
+ghost use Rattle.pack.specs.Faults.{sealFaults};
+ghost use Rattle.pack.specs.Layout.{parts, loopsGood};
+ghost use Rattle.refusals.specs.Rules.{first};
+ghost use Rattle.trivium.specs.Keystream as Keystream;
+
+// Whether each loop of an even run is in rule.
+fn loops_in_rule(loops: &[u32], samples: usize) -> bool
+    requires { ⌜ length (now loops) % 2 ≡ 0 ⌝ }
+    ensures { λ r. ⌜ r ≡ loopsGood samples (now (loops .entry)) ⌝ }
+{
+    let count = loops.len() / 2;
+    let mut i = 0;
+    while i < count {
+        let start = loops[2 * i] as usize;
+        let end = loops[2 * i + 1] as usize;
+        if end <= start {
+            return false;
+        }
+        if samples < end {
+            return false;
+        }
+        i += 1;
+    }
+    true
+}
+
+// The length of a file with a name, samples and a run of loops of these lengths.
+fn file_length(name: usize, samples: usize, loops: usize) -> usize
+    requires { ⌜ (name ≤ 32) × (samples ≤ 16384) × (loops ≤ 16) ⌝ }
+    ensures { λ r. ⌜ r ≡ 18 + name + 2 * samples + 4 * loops ⌝ }
+{
+    18 + name + 2 * samples + 4 * loops
+}
+
+// What the parts of a file have wrong, and whether the file has room.
+pub fn seal_fault(
+    name: &[u8],
+    key: u8,
+    value: &[u8],
+    samples: &[i16],
+    loops: &[u32],
+    room: usize,
+) -> u8
+    ensures { λ r. ⌜ r ≡ first (sealFaults Keystream.trivium
+        (parts (now (name .entry)) key (now (value .entry)) (now (samples .entry)) (now (loops .entry)))
+        (8 + length (now (name .entry)) + length (now (value .entry)) + 2 * length (now (samples .entry))
+        + 4 * length (now (loops .entry))) room) ⌝ }
+{
+    if pack::MOST_NAME < name.len() {
+        return refusals::LONG_NAME;
+    }
+    if !pack::name_good(name) {
+        return refusals::BAD_NAME;
+    }
+    if value.len() != trivium::VALUE_BYTES {
+        return refusals::BAD_VALUE;
+    }
+    if pack::LAST_KEY < key {
+        return refusals::BAD_KEY_NUMBER;
+    }
+    if pack::MOST_SAMPLES < samples.len() {
+        return refusals::MANY_SAMPLES;
+    }
+    if 2 * pack::MOST_LOOPS < loops.len() {
+        return refusals::MANY_LOOPS;
+    }
+    if loops.len() % 2 != 0 {
+        return refusals::MANY_LOOPS;
+    }
+    if !loops_in_rule(loops, samples.len()) {
+        return refusals::BAD_LOOP;
+    }
+    if room < file_length(name.len(), samples.len(), loops.len()) {
+        return refusals::NO_ROOM;
+    }
+    refusals::ACCEPTED
+}

@@ -1,4 +1,0 @@
-pub mod Cut
-pub mod Laws
-pub mod Theorems
-pub mod Untouched

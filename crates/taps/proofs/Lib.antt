@@ -1,0 +1,5 @@
+pub mod Bytes
+pub mod Loading
+pub mod Steps
+pub mod Strides
+pub mod Words

@@ -1,0 +1,105 @@
+// What the test programs of the packs share: a sealing from bytes and from a row, and an opening's answer in print.
+ghost use mathlib.Core.Path.{_≡_};
+ghost use lib.ListN.{length};
+use pack::Opened;
+use pack::Sealed;
+
+// Prints the answer's fields in their order.
+pub fn print_opened(lead: &[u8], opened: Opened) {
+    let answer = [
+        opened.refusal as u64,
+        opened.samples as u64,
+        opened.key as u64,
+        opened.loops as u64,
+        opened.name_length as u64,
+        opened.name_at as u64,
+        opened.value_at as u64,
+        opened.loops_at as u64,
+    ];
+    io::write_all(1, lead);
+    test_kit::print_numbers(&answer);
+}
+
+// More zeros than a pack can have samples, and numbers of loops.
+fn large_sound() -> [i16; 16400]
+    ensures { λ r. ⌜ 16400 ≡ length r ⌝ }
+{
+    [0; 16400]
+}
+
+fn large_run() -> [u32; 18]
+    ensures { λ r. ⌜ 18 ≡ length r ⌝ }
+{
+    [0; 18]
+}
+
+// Fills the output with numbers of four bytes. Behind the last they are 0.
+fn fours(bytes: &[u8], output: &mut [u32]) {
+    let mut i = 0;
+    let mut at = 0;
+    while i < output.len() {
+        output[i] = octets::four_at(bytes, at);
+        at = std::num::wrapping_add_usize(at, 4);
+        i += 1;
+    }
+}
+
+// The first n elements, or all.
+fn first_samples(run: &[i16], n: usize) -> &[i16] {
+    if n < run.len() {
+        return &run[0..n];
+    }
+    run
+}
+
+fn first_numbers(run: &[u32], n: usize) -> &[u32] {
+    if n < run.len() {
+        return &run[0..n];
+    }
+    run
+}
+
+// Seals samples of two bytes and loops of four for each number, into the first elements of the file as far as the room
+// goes.
+pub fn seal(
+    name: &[u8],
+    ring: [[u8; 10]; 4],
+    key: u8,
+    value: &[u8],
+    body: &[u8],
+    loops: &[u8],
+    room: usize,
+    file: &mut [u8],
+) -> Sealed {
+    let mut sound = large_sound();
+    let mut run = large_run();
+    let lent = test_kit::least(room, file.len());
+    sample_runs::read_words(body, &mut sound);
+    fours(loops, &mut run);
+    sealer::seal(
+        name,
+        ring,
+        key,
+        value,
+        first_samples(&sound, body.len() / 2),
+        first_numbers(&run, loops.len() / 4),
+        &mut file[0..lent],
+    )
+}
+
+// The same with NAME KEY VALUE LOOPS ROOM from the row's last words, which begin at the fourth.
+pub fn seal_row(row: &[u8], ring: [[u8; 10]; 4], body: &[u8], file: &mut [u8]) -> Sealed {
+    let mut name = io::buffer();
+    let mut value = io::buffer();
+    let mut loops = io::buffer();
+    seal(
+        test_kit::field_bytes(row, 3, &mut name),
+        ring,
+        (test_kit::field_number(row, 4) % 256) as u8,
+        test_kit::field_bytes(row, 5, &mut value),
+        body,
+        test_kit::field_bytes(row, 6, &mut loops),
+        test_kit::field_number(row, 7) as usize,
+        file,
+    )
+}

@@ -1,0 +1,202 @@
+// Sounds there and back: sealed, opened under the same ring, sealed again with the parts of the file, opened under
+// another ring, and sealed again under the next key number. A row is
+//
+//     SEED COUNT SOUND_ROOM NAME KEY VALUE LOOPS FILE_ROOM
+//
+// with four bytes for each number of a loop. The seed makes COUNT samples. Printed are the answers, whether what came
+// out is the same as what went in, and whether each output is untouched behind the part that a call should write. A
+// refused sealing leaves no file to open, and a row ends where its file does not open.
+ghost use mathlib.Core.Path.{_≡_};
+ghost use lib.ListN.{length};
+use pack::Opened;
+
+// What a sound begins with: both ends of the range and both sides of 0.
+const EDGES: [u8; 8] = [0x80, 0, 0xff, 0xff, 0, 0, 0x7f, 0xff];
+
+const FILE_ROOM: usize = 32900;
+
+const SOUND_ROOM: usize = 16400;
+
+fn file_room() -> [u8; 32900]
+    ensures { λ r. ⌜ 32900 ≡ length r ⌝ }
+{
+    [test_kit::UNTOUCHED; FILE_ROOM]
+}
+
+fn sound_room() -> [i16; 16400]
+    ensures { λ r. ⌜ 16400 ≡ length r ⌝ }
+{
+    [samples::word(test_kit::UNTOUCHED, test_kit::UNTOUCHED); SOUND_ROOM]
+}
+
+// Bytes that look random, behind the edges.
+fn fill(seed: u64, bytes: &mut [u8]) {
+    let mut word = seed;
+    let mut i = 0;
+    while i < bytes.len() {
+        word = test_kit::shuffled(word);
+        bytes[i] = (word % 256) as u8;
+        i += 1;
+    }
+    let edges = EDGES;
+    octet_writer::copy(bytes, 0, &edges);
+}
+
+fn own_ring() -> [[u8; 10]; 4] {
+    pack::ring_of(b"first key.second keythird key.fourth key")
+}
+
+// It has no key of the first.
+fn other_ring() -> [[u8; 10]; 4] {
+    pack::ring_of(b"first locksecondlockthird lockfourthlock")
+}
+
+// The bytes of an output behind its n-th.
+fn print_rest(output: &[u8], n: usize) {
+    io::write_all(1, b", rest ");
+    test_kit::print_output(octets::slice(output, n, FILE_ROOM));
+}
+
+// The samples that should be there, as bytes, and what is behind them. An array's length is known where it is lent as
+// an array, also after a part of it was lent.
+fn print_sound(output: &[i16; 16400], body: &[u8]) {
+    let mut bytes = file_room();
+    sample_runs::write_words(output, &mut bytes);
+    test_kit::compare(b"samples", octets::slice(&bytes, 0, body.len()), body);
+    print_rest(&bytes, body.len());
+}
+
+fn open(lead: &[u8], ring: [[u8; 10]; 4], file: &[u8], room: usize, body: &[u8]) -> Opened {
+    let mut output = sound_room();
+    let lent = test_kit::least(room, SOUND_ROOM);
+    let opened = opener::open(file, ring, &mut output[0..lent]);
+    let samples = opened.samples;
+    test_pack_kit::print_opened(lead, opened);
+    print_sound(&output, octets::slice(body, 0, 2 * (samples % 16385)));
+    opened
+}
+
+// Bytes of a file beside a word of the row.
+fn compare_field(what: &[u8], file: &[u8], at: usize, n: usize, row: &[u8], field: usize) {
+    let mut room = io::buffer();
+    test_kit::compare(
+        what,
+        octets::slice(file, at, n),
+        test_kit::field_bytes(row, field, &mut room),
+    );
+}
+
+// The parts of a file that are not enciphered, at the places that the answer says.
+fn print_parts(row: &[u8], file: &[u8], opened: Opened) {
+    let loops = opened.loops;
+    compare_field(b"name", file, opened.name_at, opened.name_length, row, 3);
+    compare_field(b"value", file, opened.value_at, 10, row, 5);
+    compare_field(b"loops", file, opened.loops_at, 8 * (loops % 9), row, 6);
+}
+
+// A file sealed again with its own parts, under any key number, beside n bytes of it from a place.
+fn seal_again(
+    what: &[u8],
+    file: &[u8],
+    opened: Opened,
+    key: u8,
+    body: &[u8],
+    from: usize,
+    n: usize,
+) {
+    let name_at = opened.name_at;
+    let name_length = opened.name_length;
+    let value_at = opened.value_at;
+    let loops_at = opened.loops_at;
+    let loops = opened.loops;
+    let mut again = file_room();
+    let sealed = test_pack_kit::seal(
+        octets::slice(file, name_at, name_length),
+        own_ring(),
+        key,
+        octets::slice(file, value_at, 10),
+        body,
+        octets::slice(file, loops_at, 8 * (loops % 9)),
+        FILE_ROOM,
+        &mut again,
+    );
+    test_kit::print_number(b"; sealed ", sealed.refusal as u64);
+    test_kit::compare(
+        what,
+        octets::slice(file, from, n),
+        octets::slice(&again, from, n),
+    );
+}
+
+// The same file once more: with everything as it was, under another ring, and under the next key number.
+fn once_more(file: &[u8], bytes: usize, opened: Opened, body: &[u8]) {
+    let key = opened.key;
+    let body_at = opened.value_at % 256 + 14;
+    let next = (key % 4 + 1) % 4;
+    seal_again(b"file", file, opened, key, body, 0, FILE_ROOM);
+    open(
+        b"; other ring",
+        other_ring(),
+        octets::slice(file, 0, bytes),
+        SOUND_ROOM,
+        body,
+    );
+    seal_again(b"body", file, opened, next, body, body_at, body.len());
+}
+
+fn back(row: &[u8], file: &[u8], bytes: usize, body: &[u8]) {
+    let room = test_kit::field_number(row, 2) as usize;
+    let opened = open(
+        b"; opened",
+        own_ring(),
+        octets::slice(file, 0, bytes),
+        room,
+        body,
+    );
+    if opened.refusal != refusals::ACCEPTED {
+        return;
+    }
+    print_parts(row, file, opened);
+    once_more(file, bytes, opened, body);
+}
+
+fn there(row: &[u8], body: &[u8]) {
+    let mut file = file_room();
+    let sealed = test_pack_kit::seal_row(row, own_ring(), body, &mut file);
+    let bytes = sealed.length;
+    test_kit::print_number(b"sealed ", sealed.refusal as u64);
+    test_kit::print_number(b" ", bytes as u64);
+    print_rest(&file, bytes);
+    back(row, &file, bytes, body);
+}
+
+fn run(row: &[u8]) {
+    let mut bytes = io::large_buffer();
+    let count = test_kit::field_number(row, 1) as usize;
+    fill(test_kit::field_number(row, 0), &mut bytes);
+    there(
+        row,
+        octets::slice(&bytes, 0, std::num::wrapping_add_usize(count, count)),
+    );
+    io::write_all(1, b"\n");
+}
+
+fn run_all(rows: &[u8]) {
+    let mut i = 0;
+    while i < rows.len() {
+        let row = test_kit::line(rows, i);
+        if row.len() == 0 {
+            return;
+        }
+        if !test_kit::heading(row) {
+            run(row);
+        }
+        i += 1;
+    }
+}
+
+fn main() {
+    let mut input = io::large_buffer();
+    let got = io::read_full(0, &mut input);
+    run_all(&input[..got]);
+}

@@ -1,3 +1,0 @@
-pub mod Shuffles
-pub mod Tallies
-pub mod Walks
