@@ -14,7 +14,6 @@
 //     print_number(word, n)  a word and a decimal number behind it
 //     print_numbers(row)     decimal numbers, a space before each
 //     least(a, b)            of two numbers, the lower one
-//     shuffled(x)            from a word that looks random the next one
 //
 // These functions stand in no promise: what they do is seen in what the programs print.
 ghost use Prim.Native.Nat.{_<_, min};
@@ -221,11 +220,4 @@ pub fn print_numbers(numbers: &[u64]) {
         print_number(b" ", numbers[i]);
         i += 1;
     }
-}
-
-// A word of Marsaglia's xorshift generator from the word before it. It goes through every word but 0.
-pub fn shuffled(x: u64) -> u64 {
-    let y = x ^ (x << 13);
-    let z = y ^ (y >> 7);
-    z ^ (z << 17)
 }

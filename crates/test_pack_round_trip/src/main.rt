@@ -34,7 +34,7 @@ fn fill(seed: u64, bytes: &mut [u8]) {
     let mut word = seed;
     let mut i = 0;
     while i < bytes.len() {
-        word = test_kit::shuffled(word);
+        word = test_shuffle::shuffled(word);
         bytes[i] = (word % 256) as u8;
         i += 1;
     }

@@ -127,7 +127,7 @@ fn differ(from: Registers, input: &[u8], steps: usize, count: usize, by_strides:
         }
         let last = contents;
         contents = Registers {
-            a1: test_kit::shuffled(last.a1),
+            a1: test_shuffle::shuffled(last.a1),
             a0: last.a1,
             b1: last.a0,
             b0: last.b1,
