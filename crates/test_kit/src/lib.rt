@@ -1,23 +1,17 @@
 // What the test programs share. A program reads rows from standard input, one on a line, and one loop runs them all:
 //
-//     line(rows, n)          the n-th line, from 0; an empty one is behind the last
-//     heading(line)          prints a line that begins with `#` as it is, and answers whether it did
-//     field(line, n)         the n-th word of a row, from 0; empty if there is none
-//     number(word)           a decimal number; field_number(line, n) is that of a row's n-th word
-//     bytes(word, output)    puts the bytes that a word spells at the front of the output, as far as it has room, and
-//                            answers how many: `-` none, `0102ff` digits in pairs, `5aa5*40` a run over and over to 40
-//                            bytes, `'some_value` letters with `_` for a space, and `+` between parts of these
-//     field_bytes(line, n, room)   the bytes that a row's n-th word spells, in the room that is lent for them
-//     print_bytes(bytes)     bytes in pairs of digits, `-` for none
-//     print_output(bytes)    the same, or `untouched` if each of them is as an output is before a call, UNTOUCHED
-//     compare(what, a, b)    prints `, same` or `, other` and what it is
-//     print_number(word, n)  a word and a decimal number behind it
-//     print_numbers(row)     decimal numbers, a space before each
-//     least(a, b)            of two numbers, the lower one
+//     line(rows, n)                the n-th line, from 0; an empty one is behind the last
+//     heading(line)                prints a line that begins with `#` as it is, and answers whether it did
+//     field(line, n)               the n-th word of a row, from 0; empty if there is none
+//     field_number(line, n)        the decimal number that it is
+//     field_bytes(line, n, room)   the bytes that it spells, in the room that is lent for them and as far as that goes:
+//                                  `-` none, `0102ff` digits in pairs, `5aa5*40` a run over and over to 40 bytes,
+//                                  `'some_value` letters with `_` for a space, and `+` between parts of these
+//     print_bytes(bytes)           bytes in pairs of digits, `-` for none
+//     print_number(word, n)        a word and a decimal number behind it
 //
-// These functions stand in no promise: what they do is seen in what the programs print.
-ghost use Prim.Native.Nat.{_<_, min};
-ghost use mathlib.Core.Path.{_≡_};
+// None of these has a contract for what it reads or prints, and docs/DECISIONS.md says why.
+ghost use Prim.Native.Nat.{_<_};
 
 // What each byte of an output is before a call, to see whether the call writes it.
 pub const UNTOUCHED: u8 = 0xa5;
@@ -79,8 +73,8 @@ fn digit(glyph: u8) -> u8
     glyph % 16
 }
 
-// A number of more than 18 digits loses those in front, so that there is nothing to show.
-pub fn number(word: &[u8]) -> u64 {
+// A decimal number. One of more than 18 digits loses those in front, so that there is nothing to show.
+fn number(word: &[u8]) -> u64 {
     let mut value: u64 = 0;
     let mut i = 0;
     while i < word.len() {
@@ -141,7 +135,8 @@ fn spell(piece: &[u8], output: &mut [u8], at: usize) -> usize {
     end
 }
 
-pub fn bytes(word: &[u8], output: &mut [u8]) -> usize {
+// Puts the bytes that a word spells at the front of the output, and answers how many.
+fn bytes(word: &[u8], output: &mut [u8]) -> usize {
     let mut end = 0;
     let mut i = 0;
     while i < word.len() {
@@ -160,12 +155,6 @@ pub fn field_bytes<'a>(line: &[u8], n: usize, room: &'a mut [u8]) -> &'a [u8] {
     octets::slice(room, 0, length)
 }
 
-pub fn least(a: usize, b: usize) -> usize
-    ensures { λ r. ⌜ r ≡ min a b ⌝ }
-{
-    if a < b { a } else { b }
-}
-
 fn print_byte(byte: u8) {
     io::print_hex(1, byte as u64, 2);
 }
@@ -181,43 +170,7 @@ pub fn print_bytes(bytes: &[u8]) {
     }
 }
 
-fn untouched(output: &[u8]) -> bool {
-    let mut i = 0;
-    while i < output.len() {
-        if output[i] != UNTOUCHED {
-            return false;
-        }
-        i += 1;
-    }
-    true
-}
-
-pub fn print_output(output: &[u8]) {
-    if untouched(output) {
-        io::write_all(1, b"untouched");
-        return;
-    }
-    print_bytes(output);
-}
-
-pub fn compare(what: &[u8], a: &[u8], b: &[u8]) {
-    if check::same(a, b) {
-        io::write_all(1, b", same ");
-    } else {
-        io::write_all(1, b", other ");
-    }
-    io::write_all(1, what);
-}
-
 pub fn print_number(word: &[u8], number: u64) {
     io::write_all(1, word);
     io::print_decimal(1, number);
-}
-
-pub fn print_numbers(numbers: &[u64]) {
-    let mut i = 0;
-    while i < numbers.len() {
-        print_number(b" ", numbers[i]);
-        i += 1;
-    }
 }

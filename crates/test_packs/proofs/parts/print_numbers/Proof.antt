@@ -1,9 +1,9 @@
--- `test_kit::print_numbers` is safe and ends: a turn leaves one number less, so the invariant is `Unit {0}`.
+-- `test_packs::parts::print_numbers` is safe and ends: a turn leaves one number less, so the invariant is `Unit {0}`.
 use Prim.Native.Nat.{_-_}
 use borrow.Author.Needs.{needs}
 use lib.ListN.{length}
-use Rattle.test_kit.proofs.print_numbers.Statement.{statement}
-use Rattle.test_kit.proofs.print_numbers.Tie as tie
+use Rattle.test_packs.proofs.parts.print_numbers.Statement.{statement}
+use Rattle.test_packs.proofs.parts.print_numbers.Tie as tie
 
 abbrev Inv-loop : tie.InvT-loop
 Inv-loop numbers i₀ t3 i = Unit {0}

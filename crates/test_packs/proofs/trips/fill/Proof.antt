@@ -1,10 +1,10 @@
--- `test_pack_round_trip::fill` is safe and ends: a store keeps the length, and a turn leaves one byte less.
+-- `test_packs::trips::fill` is safe and ends: a store keeps the length, and a turn leaves one byte less.
 use mathlib.Core.Path.{_≡_}
 use Prim.Native.Nat.{_-_}
 use borrow.Author.Needs.{needs}
 use lib.ListN.{length}
-use Rattle.test_pack_round_trip.proofs.fill.Statement.{statement}
-use Rattle.test_pack_round_trip.proofs.fill.Tie as tie
+use Rattle.test_packs.proofs.trips.fill.Statement.{statement}
+use Rattle.test_packs.proofs.trips.fill.Tie as tie
 
 abbrev Inv-loop : tie.InvT-loop
 Inv-loop seed bytes₀ word₀ i₀ bytes word i = length bytes ≡ length bytes₀

@@ -1,11 +1,8 @@
 // Sounds there and back: sealed, opened under the same ring, sealed again with the parts of the file, opened under
-// another ring, and sealed again under the next key number. A row is
-//
-//     SEED COUNT SOUND_ROOM NAME KEY VALUE LOOPS FILE_ROOM
-//
-// with four bytes for each number of a loop. The seed makes COUNT samples. Printed are the answers, whether what came
-// out is the same as what went in, and whether each output is untouched behind the part that a call should write. A
-// refused sealing leaves no file to open, and a row ends where its file does not open.
+// another ring, and sealed again under the next key number. The seed makes COUNT samples. Printed are the answers,
+// whether what came out is the same as what went in, and whether each output is untouched behind the part that a call
+// should write. A refused sealing leaves no file to open, and a row ends where its file does not open.
+use crate::parts;
 ghost use mathlib.Core.Path.{_≡_};
 ghost use lib.ListN.{length};
 use pack::Opened;
@@ -42,10 +39,6 @@ fn fill(seed: u64, bytes: &mut [u8]) {
     octet_writer::copy(bytes, 0, &edges);
 }
 
-fn own_ring() -> [[u8; 10]; 4] {
-    pack::ring_of(b"first key.second keythird key.fourth key")
-}
-
 // It has no key of the first.
 fn other_ring() -> [[u8; 10]; 4] {
     pack::ring_of(b"first locksecondlockthird lockfourthlock")
@@ -54,7 +47,7 @@ fn other_ring() -> [[u8; 10]; 4] {
 // The bytes of an output behind its n-th.
 fn print_rest(output: &[u8], n: usize) {
     io::write_all(1, b", rest ");
-    test_kit::print_output(octets::slice(output, n, FILE_ROOM));
+    parts::print_output(octets::slice(output, n, FILE_ROOM));
 }
 
 // The samples that should be there, as bytes, and what is behind them. An array's length is known where it is lent as
@@ -62,16 +55,16 @@ fn print_rest(output: &[u8], n: usize) {
 fn print_sound(output: &[i16; 16400], body: &[u8]) {
     let mut bytes = file_room();
     sample_runs::write_words(output, &mut bytes);
-    test_kit::compare(b"samples", octets::slice(&bytes, 0, body.len()), body);
+    parts::compare(b"samples", octets::slice(&bytes, 0, body.len()), body);
     print_rest(&bytes, body.len());
 }
 
 fn open(lead: &[u8], ring: [[u8; 10]; 4], file: &[u8], room: usize, body: &[u8]) -> Opened {
     let mut output = sound_room();
-    let lent = test_kit::least(room, SOUND_ROOM);
+    let lent = parts::least(room, SOUND_ROOM);
     let opened = opener::open(file, ring, &mut output[0..lent]);
     let samples = opened.samples;
-    test_pack_kit::print_opened(lead, opened);
+    parts::print_opened(lead, opened);
     print_sound(&output, octets::slice(body, 0, 2 * (samples % 16385)));
     opened
 }
@@ -79,7 +72,7 @@ fn open(lead: &[u8], ring: [[u8; 10]; 4], file: &[u8], room: usize, body: &[u8])
 // Bytes of a file beside a word of the row.
 fn compare_field(what: &[u8], file: &[u8], at: usize, n: usize, row: &[u8], field: usize) {
     let mut room = io::buffer();
-    test_kit::compare(
+    parts::compare(
         what,
         octets::slice(file, at, n),
         test_kit::field_bytes(row, field, &mut room),
@@ -110,9 +103,9 @@ fn seal_again(
     let loops_at = opened.loops_at;
     let loops = opened.loops;
     let mut again = file_room();
-    let sealed = test_pack_kit::seal(
+    let sealed = parts::seal(
         octets::slice(file, name_at, name_length),
-        own_ring(),
+        parts::own_ring(),
         key,
         octets::slice(file, value_at, 10),
         body,
@@ -121,7 +114,7 @@ fn seal_again(
         &mut again,
     );
     test_kit::print_number(b"; sealed ", sealed.refusal as u64);
-    test_kit::compare(
+    parts::compare(
         what,
         octets::slice(file, from, n),
         octets::slice(&again, from, n),
@@ -145,10 +138,10 @@ fn once_more(file: &[u8], bytes: usize, opened: Opened, body: &[u8]) {
 }
 
 fn back(row: &[u8], file: &[u8], bytes: usize, body: &[u8]) {
-    let room = test_kit::field_number(row, 2) as usize;
+    let room = test_kit::field_number(row, 8) as usize;
     let opened = open(
         b"; opened",
-        own_ring(),
+        parts::own_ring(),
         octets::slice(file, 0, bytes),
         room,
         body,
@@ -162,7 +155,7 @@ fn back(row: &[u8], file: &[u8], bytes: usize, body: &[u8]) {
 
 fn there(row: &[u8], body: &[u8]) {
     let mut file = file_room();
-    let sealed = test_pack_kit::seal_row(row, own_ring(), body, &mut file);
+    let sealed = parts::seal_row(row, parts::own_ring(), body, &mut file);
     let bytes = sealed.length;
     test_kit::print_number(b"sealed ", sealed.refusal as u64);
     test_kit::print_number(b" ", bytes as u64);
@@ -170,33 +163,13 @@ fn there(row: &[u8], body: &[u8]) {
     back(row, &file, bytes, body);
 }
 
-fn run(row: &[u8]) {
+pub fn trip(row: &[u8]) {
     let mut bytes = io::large_buffer();
-    let count = test_kit::field_number(row, 1) as usize;
-    fill(test_kit::field_number(row, 0), &mut bytes);
+    let count = test_kit::field_number(row, 2) as usize;
+    fill(test_kit::field_number(row, 1), &mut bytes);
     there(
         row,
         octets::slice(&bytes, 0, std::num::wrapping_add_usize(count, count)),
     );
     io::write_all(1, b"\n");
-}
-
-fn run_all(rows: &[u8]) {
-    let mut i = 0;
-    while i < rows.len() {
-        let row = test_kit::line(rows, i);
-        if row.len() == 0 {
-            return;
-        }
-        if !test_kit::heading(row) {
-            run(row);
-        }
-        i += 1;
-    }
-}
-
-fn main() {
-    let mut input = io::large_buffer();
-    let got = io::read_full(0, &mut input);
-    run_all(&input[..got]);
 }

@@ -1,9 +1,9 @@
--- `test_pack_round_trip::run_all` is safe and ends: a turn leaves one line less, so the invariant is `Unit {0}`.
+-- `test_packs::run_all` is safe and ends: a turn leaves one line less, so the invariant is `Unit {0}`.
 use Prim.Native.Nat.{_-_}
 use borrow.Author.Needs.{needs}
 use lib.ListN.{length}
-use Rattle.test_pack_round_trip.proofs.run_all.Statement.{statement}
-use Rattle.test_pack_round_trip.proofs.run_all.Tie as tie
+use Rattle.test_packs.proofs.run_all.Statement.{statement}
+use Rattle.test_packs.proofs.run_all.Tie as tie
 
 abbrev Inv-loop : tie.InvT-loop
 Inv-loop rows i₀ i = Unit {0}

@@ -1,9 +1,9 @@
--- `test_kit::untouched` is safe and ends: a turn leaves one byte less, so the invariant is `Unit {0}`.
+-- `test_packs::parts::untouched` is safe and ends: a turn leaves one byte less, so the invariant is `Unit {0}`.
 use Prim.Native.Nat.{_-_}
 use borrow.Author.Needs.{needs}
 use lib.ListN.{length}
-use Rattle.test_kit.proofs.untouched.Statement.{statement}
-use Rattle.test_kit.proofs.untouched.Tie as tie
+use Rattle.test_packs.proofs.parts.untouched.Statement.{statement}
+use Rattle.test_packs.proofs.parts.untouched.Tie as tie
 
 abbrev Inv-loop : tie.InvT-loop
 Inv-loop output i₀ i = Unit {0}

@@ -1,10 +1,10 @@
--- `test_pack_kit::fours` is safe and ends: a store keeps the length, and a turn leaves one number less.
+-- `test_packs::parts::fours` is safe and ends: a store keeps the length, and a turn leaves one number less.
 use mathlib.Core.Path.{_≡_}
 use Prim.Native.Nat.{_-_}
 use borrow.Author.Needs.{needs}
 use lib.ListN.{length}
-use Rattle.test_pack_kit.proofs.fours.Statement.{statement}
-use Rattle.test_pack_kit.proofs.fours.Tie as tie
+use Rattle.test_packs.proofs.parts.fours.Statement.{statement}
+use Rattle.test_packs.proofs.parts.fours.Tie as tie
 
 abbrev Inv-loop : tie.InvT-loop
 Inv-loop bytes output₀ i₀ at₀ output i at = length output ≡ length output₀

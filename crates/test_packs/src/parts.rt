@@ -1,8 +1,60 @@
-// What the test programs of the packs share: a sealing from bytes and from a row, and an opening's answer in print.
+// A sealing from bytes and from a row, and an opening's answer in print.
 ghost use mathlib.Core.Path.{_≡_};
+ghost use Prim.Native.Nat.{min};
 ghost use lib.ListN.{length};
 use pack::Opened;
 use pack::Sealed;
+
+pub fn own_ring() -> [[u8; 10]; 4] {
+    pack::ring_of(b"first key.second keythird key.fourth key")
+}
+
+// Of two numbers, the lower one.
+pub fn least(a: usize, b: usize) -> usize
+    ensures { λ r. ⌜ r ≡ min a b ⌝ }
+{
+    if a < b { a } else { b }
+}
+
+// Whether each byte is as an output is before a call.
+fn untouched(output: &[u8]) -> bool {
+    let mut i = 0;
+    while i < output.len() {
+        if output[i] != test_kit::UNTOUCHED {
+            return false;
+        }
+        i += 1;
+    }
+    true
+}
+
+// Bytes, or that each is as it was before the call.
+pub fn print_output(output: &[u8]) {
+    if untouched(output) {
+        io::write_all(1, b"untouched");
+        return;
+    }
+    test_kit::print_bytes(output);
+}
+
+// Prints whether two runs are the same, and what they are.
+pub fn compare(what: &[u8], a: &[u8], b: &[u8]) {
+    if check::same(a, b) {
+        io::write_all(1, b", same ");
+    } else {
+        io::write_all(1, b", other ");
+    }
+    io::write_all(1, what);
+}
+
+// Decimal numbers, a space before each.
+fn print_numbers(numbers: &[u64]) {
+    let mut i = 0;
+    while i < numbers.len() {
+        test_kit::print_number(b" ", numbers[i]);
+        i += 1;
+    }
+}
 
 // Prints the answer's fields in their order.
 pub fn print_opened(lead: &[u8], opened: Opened) {
@@ -17,7 +69,7 @@ pub fn print_opened(lead: &[u8], opened: Opened) {
         opened.loops_at as u64,
     ];
     io::write_all(1, lead);
-    test_kit::print_numbers(&answer);
+    print_numbers(&answer);
 }
 
 // More zeros than a pack can have samples, and numbers of loops.
@@ -73,7 +125,7 @@ pub fn seal(
 ) -> Sealed {
     let mut sound = large_sound();
     let mut run = large_run();
-    let lent = test_kit::least(room, file.len());
+    let lent = least(room, file.len());
     sample_runs::read_words(body, &mut sound);
     fours(loops, &mut run);
     sealer::seal(
