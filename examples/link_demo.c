@@ -13,7 +13,8 @@ static const char usage[] =
 
 /* A real pair has a key and a name of its own: ends made afresh under old ones would use their keystream again. */
 static const uint8_t key[] = {'d', 'e', 'm', 'o', ' ', 'k', 'e', 'y', ' ', '0'};
-static const uint8_t pair_name[] = {'d', 'e', 's', 'k', '-', '1'};
+static const uint8_t first_pair[SEMIVRAKH_PAIR_BYTES] = {'d', 'e', 's', 'k', '-', '1'};
+static const uint8_t second_pair[SEMIVRAKH_PAIR_BYTES] = {'d', 'e', 's', 'k', '-', '2'};
 
 enum {
     MADE_BYTES = 24601, /* no whole number of blocks: the last one is short */
@@ -106,13 +107,14 @@ static void must_be_ok(uint8_t no, const char *call)
     exit(1);
 }
 
-static struct ends make_ends(uint8_t *room, size_t room_length)
+/* A receiver has one room for all of its transfers, from its making on. */
+static struct ends make_ends(const uint8_t *pair_name, uint8_t *room, size_t room_length)
 {
     struct ends ends = {.room = room, .room_length = room_length};
-    must_be_ok(semivrakh_sender_make(ends.sender, sizeof ends.sender, key, sizeof key, pair_name, sizeof pair_name),
-               "making a sender");
+    must_be_ok(semivrakh_sender_make(ends.sender, sizeof ends.sender, key, sizeof key, pair_name,
+                                     SEMIVRAKH_PAIR_BYTES), "making a sender");
     must_be_ok(semivrakh_receiver_make(ends.receiver, sizeof ends.receiver, key, sizeof key, pair_name,
-                                       sizeof pair_name), "making a receiver");
+                                       SEMIVRAKH_PAIR_BYTES), "making a receiver");
     return ends;
 }
 
@@ -246,7 +248,7 @@ int main(int words, char **word)
     if (words > 2) length = read_file(word[2], sound, sizeof sound);
     else make_sound(sound, length);
     for (size_t i = 0; i < length; i++) room[i] = (uint8_t)~sound[i]; /* no byte is right before it has arrived */
-    struct ends ends = make_ends(room, sizeof room);
+    struct ends ends = make_ends(first_pair, room, sizeof room);
 
     printf("a sound of %zu bytes, checksum %08x\n", length, checksum(sound, length));
     uint8_t first = transfer(&ends, &line, sound, length);
@@ -260,15 +262,21 @@ int main(int words, char **word)
     uint8_t second = transfer(&ends, &line, NULL, 0);
     printf("an empty sound: %s, with %u blocks held\n", phase_words(second), blocks_held(&ends));
 
-    static const uint8_t long_sound[SMALL_ROOM + 1];
-    ends.room_length = SMALL_ROOM;
-    uint8_t third = transfer(&ends, &line, long_sound, sizeof long_sound);
-    printf("a sound of %zu bytes for a room of %zu: %s\n", sizeof long_sound, ends.room_length, phase_words(third));
-
     run_empty(&ends, &line);
+
+    /* A smaller room belongs to a receiver of its own, and so to another pair of ends and another line. */
+    static struct line other_line;
+    other_line.random = line.random;
+    static uint8_t small_room[SMALL_ROOM];
+    static const uint8_t long_sound[SMALL_ROOM + 1];
+    struct ends others = make_ends(second_pair, small_room, sizeof small_room);
+    uint8_t third = transfer(&others, &other_line, long_sound, sizeof long_sound);
+    printf("a sound of %zu bytes for a room of %zu: %s\n", sizeof long_sound, others.room_length, phase_words(third));
+    run_empty(&others, &other_line);
+
     bool kept = memcmp(sound, room, length) == 0;
-    printf("%lu frames came after the end of their transfer and were refused; the first sound is %s\n", line.refused,
-           kept ? "still as it was" : "DAMAGED");
+    printf("%lu frames came after the end of their transfer and were refused; the first sound is %s\n",
+           line.refused + other_line.refused, kept ? "still as it was" : "DAMAGED");
 
     bool ended = first == SEMIVRAKH_DONE && second == SEMIVRAKH_DONE && third == SEMIVRAKH_REFUSED_TOO_LONG;
     bool good = ended && same && kept;

@@ -22,6 +22,9 @@
  *   writes a record to the front of any buffer that is long enough; every other call wants exactly the record's length,
  *   and refuses bytes that are no record, enciphering with 3 and the link's calls with 27.
  *
+ *   Look at what making answers. A refused making leaves the buffer as it was, and what was in it may well be taken for
+ *   a record: 48 zeros are a cipher, and its keystream is all zeros, so that it enciphers nothing.
+ *
  *   Cipher, 48 bytes: the registers a (93 bits), b (84) and c (111), each in 16 bytes as one number, its newest bit the
  *   lowest. The bits above a register are ignored, and come back zero from a call that isn't refused; so every 48
  *   bytes are a cipher.
@@ -253,8 +256,9 @@ uint8_t semivrakh_receiver_make(uint8_t *receiver, size_t receiver_length,
 
 /*
  * Hears a frame of the sender, lent exactly. Writes the answer frame to the front of `answer` and its length to
- * `*answer_length`. `sound` is the buffer that the sound arrives in: lend the same one to every call of a transfer, and
- * let nobody else write to it. A block in turn writes its own bytes there, and nothing else writes anything.
+ * `*answer_length`. `sound` is the buffer that sounds arrive in: lend this receiver the same one, at the same length, in
+ * every call from its making on, and let nobody else write to it. A block in turn writes its own bytes there, and
+ * nothing else writes anything.
  * Refuses, in order: 27, 24, 25, 26, 23 (the buffer is shorter than the transfer), 19 (fewer than 7 bytes for an
  * answer).
  */

@@ -78,11 +78,11 @@ pub fn read_samples(start: Registers, body: &[u8], output: &mut [i16])
     if output.len() < n / 2 {
         return;
     }
-    let mut running = Running { registers: start };
+    let mut running = Running::of(start);
     let mut at = 0;
     while at + CHUNK <= n {
         running = read_chunk(running, body, output, at);
         at += CHUNK;
     }
-    read_rest(running.registers, body, output, at, n - at);
+    read_rest(running.stop(), body, output, at, n - at);
 }

@@ -2,15 +2,17 @@
 // was lent.
 use trivium::Registers;
 ghost use mathlib.Core.Path.{_≡_};
+ghost use lib.ListN.{length};
 ghost use Rattle.octets.specs.Buffers.{put};
 ghost use Rattle.refusals.specs.Outcome.{outcome};
 ghost use Rattle.cipher_bytes.specs.Calls.{cipherMake, ciphered, cipherEncipher};
-ghost use Rattle.cipher_bytes.specs.Record.{cipherBytes, cipherIn};
+ghost use Rattle.cipher_bytes.specs.Record.{cipherSize, cipherBytes, cipherIn};
 
 pub const CIPHER_BYTES: usize = 48;
 
-// The cipher that the bytes are.
+// The cipher that the bytes are, all of them: of too few no cipher is made.
 fn cipher_in(bytes: &[u8]) -> Registers
+    requires { ⌜ length (now bytes) ≡ cipherSize ⌝ }
     ensures { λ r. ⌜ r ≡ cipherIn (now (bytes .entry)) ⌝ }
 {
     let a1 = octets::number_at(bytes, 0, 8);

@@ -12,22 +12,56 @@ use Rattle.blocks.specs.Blocks.{longest, whole}
 use Rattle.frames.specs.{Frames.some, Frames.inLimits, Frames.heard, Told.told, Told.heardAs, declared.Told.Told}
 use Rattle.frames.specs.declared.Told.the-variants as the-told
 
--- the code's tests and answers, over the numbers that it read
-abbrev pub tests : (size kind session sound number count : ℕ) → Told
-tests size kind session sound number count =
-    cond (eqb kind 1 && eqb size 9 && (some session && leb sound longest)) (the-told.Opening session sound)
-    (cond (eqb kind 2 && eqb size (8 + count) && (some session && (leb 1 count && leb count whole)))
-    (the-told.Block session number count)
-    (cond (eqb kind 3 && eqb size 7 && some session) (the-told.Holds session number)
-    (cond (eqb kind 4 && eqb size 5 && some session) (the-told.TooLong session)
-    the-told.Nothing)))
+-- the numbers that the code read, and its tests and answers over them
+pub record Seen : Type 0 where
+  pub size : ℕ
+  pub kind : ℕ
+  pub session : ℕ
+  pub sound : ℕ
+  pub number : ℕ
+  pub count : ℕ
 
--- what a choice is, once its test is known
-pub if-so : (b : Bool) (x y : Told) {t : Told} → b ≡ true → cond b x y ≡ t → x ≡ t
-if-so b x y e p = rw e at p
+module _ (s : Seen) where
+  abbrev isOpening : Bool
+  isOpening = eqb (s .kind) 1 && eqb (s .size) 9 && (some (s .session) && leb (s .sound) longest)
 
-pub if-not : (b : Bool) (x y : Told) {t : Told} → b ≡ false → cond b x y ≡ t → y ≡ t
-if-not b x y e p = rw e at p
+  abbrev isBlock : Bool
+  isBlock =
+      eqb (s .kind) 2 && eqb (s .size) (8 + s .count)
+      && (some (s .session) && (leb 1 (s .count) && leb (s .count) whole))
+
+  abbrev isHolds : Bool
+  isHolds = eqb (s .kind) 3 && eqb (s .size) 7 && some (s .session)
+
+  abbrev isTooLong : Bool
+  isTooLong = eqb (s .kind) 4 && eqb (s .size) 5 && some (s .session)
+
+  abbrev pub tests : Told
+  tests =
+      cond isOpening (the-told.Opening (s .session) (s .sound))
+      (cond isBlock (the-told.Block (s .session) (s .number) (s .count))
+      (cond isHolds (the-told.Holds (s .session) (s .number))
+      (cond isTooLong (the-told.TooLong (s .session))
+      the-told.Nothing)))
+
+  -- what is told, by the first test that holds
+  module _ {t : Told} (e : tests ≡ t) where
+    pub tells-opening : isOpening ≡ true → the-told.Opening (s .session) (s .sound) ≡ t
+    tells-opening so = rw so at e
+
+    pub tells-block : isOpening ≡ false → isBlock ≡ true → the-told.Block (s .session) (s .number) (s .count) ≡ t
+    tells-block a so = rw (a, so) at e
+
+    pub tells-holds : isOpening ≡ false → isBlock ≡ false → isHolds ≡ true
+        → the-told.Holds (s .session) (s .number) ≡ t
+    tells-holds a b so = rw (a, b, so) at e
+
+    pub tells-too-long : isOpening ≡ false → isBlock ≡ false → isHolds ≡ false → isTooLong ≡ true
+        → the-told.TooLong (s .session) ≡ t
+    tells-too-long a b c so = rw (a, b, c, so) at e
+
+    pub tells-nothing : isOpening ≡ false → isBlock ≡ false → isHolds ≡ false → isTooLong ≡ false → the-told.Nothing ≡ t
+    tells-nothing a b c d = rw (a, b, c, d) at e
 
 -- a message of the length that its count says has as many bytes behind the count
 counted : (m : List ℕ) (b s : Bool) (n : ℕ) (f : ℕ → Told) (other : Told) → let rest = length (drop 8 m) in
@@ -45,7 +79,14 @@ counted m b s n f other = go (b && eqb (length m) (8 + n)) refl
     go false e = refl
 
 pub read-so : (m : List ℕ) → told (heard m)
-    ≡ tests (length m) (numberAt m 0 1) (numberAt m 1 4) (numberAt m 5 4) (numberAt m 5 2) (numberAt m 7 1)
+    ≡ tests (record {
+      size = length m;
+      kind = numberAt m 0 1;
+      session = numberAt m 1 4;
+      sound = numberAt m 5 4;
+      number = numberAt m 5 2;
+      count = numberAt m 7 1;
+    })
 unfolding heard inLimits
 read-so m = simp (cond-map told) (rw (counted m _ _ _ (the-told.Block (numberAt m 1 4) (numberAt m 5 2)) _))
 

@@ -9,6 +9,11 @@ use Rattle.frames.specs.Frames.{opening, block, holds, tooLong, bytes}
 
 -- ---- short frames
 
+-- what is written with a number in it is what the same number writes
+pub with-number : {A : Type 0} (written : ℕ → A) (number : ℕ) {x : A} {n : ℕ} → x ≡ written n → n ≡ number
+    → x ≡ written number
+with-number written number e same = e ∙ ap written same
+
 -- a first byte, a session, and a number of so many bytes
 abbrev pub short : ℕ → ℕ → ℕ → ℕ → List ℕ
 short kind session width number = row (1 ∷ 4 ∷ width ∷ []) (kind ∷ session ∷ number ∷ [])

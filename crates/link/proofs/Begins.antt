@@ -6,6 +6,7 @@ use native.Mathlib.Omega.{arith}
 use borrow.Author.Tests.{eq-eqb, ne-eqb}
 use lib.{Dec.eqb, ListN.length, ListN.take}
 use Rattle.octets.specs.Stream.{Cipher}
+use Rattle.refusals.specs.Numbers.{accepted}
 use Rattle.refusals.proofs.{Tests.by-cond, ByTurns.finally, ByTurns.keeps, ByTurns.either, ByTurns.by-turns}
 use Rattle.blocks.specs.{Blocks.longest, Blocks.blockOf, Covering.covered}
 use Rattle.frames.specs.Frames.{opening, block, bytes}
@@ -13,6 +14,7 @@ use Rattle.names.specs.Naming.{keyBytes, pairBytes}
 use Rattle.receiver.proofs.Theorems as receiver
 use Rattle.sender.proofs.Theorems as sender
 use Rattle.sender.specs.Sender.{lastSession, agreed, begun, beginning}
+use Rattle.sender.specs.{declared.SenderAnswer.SenderAnswer, declared.Phase.the-variants.Opening}
 use Rattle.link.specs.World.{World, fresh, withBegun, afterBegin, heldBytes}
 use Rattle.link.proofs.Invariant.{Up, an-opening, a-block, Down, a-count, a-no, Inv, sender-in-rule}
 
@@ -73,6 +75,22 @@ module _ {cipher : Cipher} {key pair : List ℕ} {room : ℕ} (w : World) (i : I
   begins-kept =
       by-turns (λ a. Inv cipher key pair room (withBegun w new a))
       (keeps (sender-in-rule w i) (either i (λ short. either i (λ left. finally (starts short left)))))
+
+  -- an accepted beginning opens the sound that was lent
+  abbrev Opens : SenderAnswer → Type 0
+  Opens a =
+      a .refusal ≡ accepted
+      → (a .sender .phase ≡ Opening)
+      × (a .sender .length ≡ length new)
+      × (withBegun w new a .sound (a .sender .session) ≡ new)
+
+  pub opens : Opens (beginning (w .sender) new)
+  unfolding beginning
+  opens =
+      by-turns Opens
+      (keeps (sender-in-rule w i)
+      (either (λ e. absurd (omega arith)) (λ short.
+      either (λ e. absurd (omega arith)) (λ left. finally (λ _. (refl, refl, its-own))))))
 
 pub fresh-holds : (cipher : Cipher) (key pair buffer : List ℕ) → length key ≡ keyBytes → length pair ≡ pairBytes
     → Inv cipher key pair (length buffer) (fresh key pair buffer)

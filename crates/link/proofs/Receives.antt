@@ -17,7 +17,7 @@ use Rattle.receiver.specs.Receiver.{received, receiving}
 use Rattle.receiver.specs.declared.Receiver.{Receiver}
 use Rattle.sender.specs.declared.Phase.{Phase}
 use Rattle.sender.specs.declared.Phase.the-variants.{Idle, Opening, Sending, Done, Refused}
-use Rattle.link.specs.{Demand3.Possible, World.World, World.withReceived, World.afterReceive}
+use Rattle.link.specs.{Demand3.Fitting, World.World, World.withReceived, World.afterReceive}
 use Rattle.link.proofs.{Fronts.uncovered, Fronts.held-more, Sends.one-more}
 use Rattle.link.proofs.Invariant.{lim, Held, Known, an-opening, a-block, Down, a-count, a-no, UpOf, Inv}
 use Rattle.link.proofs.Invariant.{receiver-in-rule, meant, length-holds, length-no}
@@ -41,7 +41,7 @@ module _ {taken count taken′ count′ : ℕ} (later : taken ≤ taken′) (on 
 module _ {cipher : Cipher} {key pair : List ℕ} {room : ℕ} (w : World) (i : Inv cipher key pair room w)
     (reply : List ℕ) where
   abbrev Kept : Received → Type 0
-  Kept o = Inv cipher key pair room (withReceived w o) × Possible (o .answer .refusal)
+  Kept o = Inv cipher key pair room (withReceived w o) × Fitting (o .answer .refusal)
 
   -- what a frame that isn't refused brings about
   abbrev KeptBy : Effect → Type 0
@@ -65,7 +65,13 @@ module _ {cipher : Cipher} {key pair : List ℕ} {room : ℕ} (w : World) (i : I
       record {
         names = i .names;
         begun = i .begun;
-        held = held;
+        held = record {
+          same = held .same;
+          fits = held .fits;
+          counted = held .counted;
+          whole = omega arith;
+          front = let front = held .front in cc;
+        };
         between = record {
           ahead = most;
           limit = limit;
@@ -157,6 +163,6 @@ module _ {cipher : Cipher} {key pair : List ℕ} {room : ℕ} (w : World) (i : I
 
     pub receives-kept : List·Memᴰ frame (w .up)
         → Inv cipher key pair room (afterReceive cipher frame reply w)
-        × Possible (receiving cipher (w .receiver) (w .buffer) reply frame .answer .refusal)
+        × Fitting (receiving cipher (w .receiver) (w .buffer) reply frame .answer .refusal)
     unfolding afterReceive
     receives-kept m = on-up (i .up frame m)

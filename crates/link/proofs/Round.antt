@@ -177,7 +177,7 @@ module _ {cipher : Cipher} {key pair : List ℕ} {room : ℕ} (w : World) (i : I
         let answer = answered reply (omega arith) in
         let next = heeds-news (answer .0) (answer .1) in
         let done = calls (answer .0) (next .0) (answer .2) (next .1) in
-        let first = sends r (soundOf w) frame (λ _. refl) in
+        let first = sends r (soundOf w) frame (λ _ _. refl) in
         let second = receives first (sentFrame (sendCall cipher w frame reply)) reply (on-line _ _ (w .up) (done .0)) in
         let third = hears second (replyFrame (receiveCall cipher w frame reply)) (on-line _ _ (w .down) (done .1)) in
         let heard = ap (λ (a : SenderAnswer). a .refusal) (done .2) in (

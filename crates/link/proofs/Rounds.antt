@@ -52,7 +52,12 @@ module _ (cipher : Cipher) (key pair buffer : List ℕ) (w : World) (n : ℕ) (f
         let long = begun-length m so in
         let whole = holds-at r .held .whole in
         let over : Over w (after m) =
-        record { sameSession = so .sameSession; done = λ _. e; refused = λ short. absurd (omega arith) } in
+        record {
+          sameSession = so .sameSession;
+          sameSounds = so .sameSound;
+          done = λ _. e;
+          refused = λ short. absurd (omega arith);
+        } in
         (m, so .early, so .wells, so .at, over)
 
     ends-refused : (m : ℕ) → So m → after m .sender .phase ≡ Refused TooLong → End
@@ -61,7 +66,12 @@ module _ (cipher : Cipher) (key pair buffer : List ℕ) (w : World) (n : ℕ) (f
         let long = begun-length m so in
         let whole = holds-at r .held .whole in
         let over : Over w (after m) =
-        record { sameSession = so .sameSession; done = λ fits. absurd (omega arith); refused = λ _. e } in
+        record {
+          sameSession = so .sameSession;
+          sameSounds = so .sameSound;
+          done = λ fits. absurd (omega arith);
+          refused = λ _. e;
+        } in
         (m, so .early, so .wells, so .at, over)
 
     one-more-well : (m : ℕ) → So m → WellAt m → (j : ℕ) → j < suc m → Dec (j < m) → WellAt j

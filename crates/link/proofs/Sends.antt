@@ -39,13 +39,14 @@ module _ {cipher : Cipher} {key pair : List ℕ} {room : ℕ} (w : World) (i : I
       a-block s k (known .0) (omega arith) (rw (i .begun .same) (known .1)) (λ _. rw e (omega arith))
       (λ j. bytes (block s k (covered cipher (i .names .0 j) (i .names .1 j) s k (blockOf (own j) k)))))
 
-  pub sends-kept : (sound frame : List ℕ) → (length sound ≡ w .sender .length → sound ≡ soundOf w)
+  pub sends-kept : (sound frame : List ℕ)
+      → (underWay (w .sender .phase) ≡ true → length sound ≡ w .sender .length → sound ≡ soundOf w)
       → Inv cipher key pair room (afterSend cipher sound frame w)
   unfolding afterSend sending
   sends-kept sound frame same =
       by-turns (λ o. Inv cipher key pair room (withSent w o))
       (keeps (sender-in-rule w i) (either i (λ u. either i (λ long. either i (λ fits.
-      let fine = subst Fine (sym (take-placed frame _ fits)) (due-fine sound (same long) u) in
+      let fine = subst Fine (sym (take-placed frame _ fits)) (due-fine sound (same u long) u) in
       finally
       (record {
         names = i .names;

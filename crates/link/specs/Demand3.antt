@@ -4,21 +4,26 @@ use mathlib.Core.{Path._≡_, Logic._≢_, Bool.true, List.List, List.List·Mem�
 use Prim.Native.Nat.{ℕ, zero, suc, _+_, _≤_, _<_}
 use lib.ListN.{length, take}
 use Rattle.octets.specs.Stream.{Cipher}
-use Rattle.refusals.specs.{Numbers.accepted, Numbers.notAFrame, Numbers.impossible, Numbers.outOfRule, Outcome.Outcome}
+use Rattle.refusals.specs.Numbers.{accepted, wrongSound, notAFrame, impossible, outOfRule}
+use Rattle.refusals.specs.Outcome.{Outcome}
 use Rattle.blocks.specs.Blocks.{blocks}
 use Rattle.frames.specs.Frames.{tooLong, bytes}
 use Rattle.receiver.specs.{Receiver.answerRoom, Receiver.Received, Receiver.receiving, Rules.receiverInRule}
 use Rattle.sender.specs.{Rules.senderInRule, declared.Phase.the-variants.Done, declared.Phase.the-variants.Refused}
 use Rattle.sender.specs.{declared.Reason.the-variants.TooLong, declared.SenderAnswer.SenderAnswer, declared.Sent.Sent}
-use Rattle.sender.specs.Sender.{dueIn, sending, hearing}
-use Rattle.link.specs.World.{World, sentFrame, replyFrame, afterSend, afterReceive, afterHear, Reach, heldBytes}
-use Rattle.link.specs.World.{UnderWay}
+use Rattle.sender.specs.Sender.{beginning, dueIn, sending, hearing}
+use Rattle.link.specs.World.{World, sentFrame, replyFrame, afterBegin, afterSend, afterReceive, afterHear}
+use Rattle.link.specs.World.{Reach, heldBytes, UnderWay}
 
 -- no frame off the line is refused as no frame for this end or as one that can't be, nor for a record out of rule
 pub record Possible (number : ℕ) : Type 0 where
   pub aFrame : number ≢ notAFrame
   pub canBe : number ≢ impossible
   pub inRule : number ≢ outOfRule
+
+-- at the receiver, moreover, its one buffer is never short for the transfer
+abbrev pub Fitting : ℕ → Type 0
+Fitting number = Possible number × (number ≢ wrongSound)
 
 -- the sound begun last
 abbrev pub soundOf : World → List ℕ
@@ -64,9 +69,11 @@ unfoldable pub rounds : Cipher → (frame reply : ℕ → List ℕ) → ℕ → 
 rounds cipher frame reply zero w = w
 rounds cipher frame reply (suc m) w = afterRound cipher (rounds cipher frame reply m w) (frame m) (reply m)
 
--- A transfer under way in w is over in v: done, or refused if and only if the sound exceeds the receiver's buffer.
+-- A transfer under way in w is over in v, with every sound as it was: done, or refused if and only if the sound exceeds
+-- the receiver's buffer.
 pub record Over (w v : World) : Type 0 where
   pub sameSession : v .sender .session ≡ w .sender .session
+  pub sameSounds : v .sound ≡ w .sound
   pub done : length (soundOf w) ≤ length (w .buffer) → v .sender .phase ≡ Done
   pub refused : length (w .buffer) < length (soundOf w) → v .sender .phase ≡ Refused TooLong
 
@@ -76,6 +83,8 @@ pub record Demand3 (cipher : Cipher) (key pair buffer : List ℕ) (w : World) : 
       (length (w .sound (w .receiver .session)) ≡ w .receiver .length)
       × (n ≤ length (w .buffer))
       × (take n (w .buffer) ≡ take n (w .sound (w .receiver .session)))
+  -- the buffer is as long as it ever was
+  pub sameRoom : length (w .buffer) ≡ length buffer
   -- 2. done is reported only while the receiver holds the whole of it
   pub doneHeld : w .sender .phase ≡ Done
       → (w .receiver .session ≡ w .sender .session)
@@ -83,15 +92,20 @@ pub record Demand3 (cipher : Cipher) (key pair buffer : List ℕ) (w : World) : 
       × (take (w .receiver .length) (w .buffer) ≡ soundOf w)
   -- 3. no frame that the line delivers is refused as none, or as one that can't be; and both records stay in rule
   pub received : (frame reply : List ℕ) → List·Memᴰ frame (w .up)
-      → Possible (receiving cipher (w .receiver) (w .buffer) reply frame .answer .refusal)
+      → Fitting (receiving cipher (w .receiver) (w .buffer) reply frame .answer .refusal)
   pub heard : (frame : List ℕ) → List·Memᴰ frame (w .down) → Possible (hearing (w .sender) frame .refusal)
   pub inRule : (senderInRule (w .sender) ≡ true) × (receiverInRule (w .receiver) ≡ true)
-  -- a transfer is refused by Too long of its own session alone, and then the sound exceeds the receiver's buffer
+  -- a transfer is refused by Too long of its own session alone, and then and as long as it is refused the sound exceeds
+  -- the receiver's buffer
   pub onlyTooLong : (frame : List ℕ) → List·Memᴰ frame (w .down) → w .sender .phase ≢ Refused TooLong
       → hearing (w .sender) frame .sender .phase ≡ Refused TooLong
       → (frame ≡ bytes (tooLong (w .sender .session))) × (length (w .buffer) < length (soundOf w))
-  -- 4. with n blocks not yet known to be held, at most n + 1 undisturbed rounds in a row, with room for each frame, go
-  -- well and end the transfer
+  pub refusedLong : w .sender .phase ≡ Refused TooLong → length (w .buffer) < length (soundOf w)
+  -- 4. a sound begun is under way, with none of its blocks known to be held
+  pub begins : (sound : List ℕ) → beginning (w .sender) sound .refusal ≡ accepted
+      → UnderWay (afterBegin sound w .sender) (blocks (length sound)) × (soundOf (afterBegin sound w) ≡ sound)
+  -- and with n blocks not yet known to be held, at most n + 1 undisturbed rounds in a row, with room for each frame,
+  -- go well and end the transfer
   pub roundsEnd : (n : ℕ) → UnderWay (w .sender) n → (frame reply : ℕ → List ℕ)
       → ((j : ℕ) → j ≤ n → Room cipher (rounds cipher frame reply j w) (frame j) (reply j))
       → (m : ℕ)

@@ -1,5 +1,5 @@
 -- The world of demand 3, on one page: one sender and one receiver, the line between them, and all that can happen.
-use mathlib.Core.{Path._≡_, Logic._⊎_, Bool.cond, Bool._&&_, List.List, List.[], List._∷_, List.List·Memᴰ}
+use mathlib.Core.{Path._≡_, Logic._⊎_, Bool.true, Bool.cond, Bool._&&_, List.List, List.[], List._∷_, List.List·Memᴰ}
 use Prim.Native.Nat.{ℕ, _-_, min}
 use lib.{Dec.eqb, ListN.length, ListN.take}
 use Rattle.octets.specs.Stream.{Cipher}
@@ -9,7 +9,7 @@ use Rattle.names.specs.Naming.{keyBytes, pairBytes}
 use Rattle.receiver.specs.{Receiver.Received, Receiver.makingReceiver, Receiver.receiving, declared.Receiver.Receiver}
 use Rattle.sender.specs.{declared.Phase.the-variants.Opening, declared.Phase.the-variants.Sending}
 use Rattle.sender.specs.{declared.Sender.Sender, declared.SenderAnswer.SenderAnswer, declared.Sent.Sent}
-use Rattle.sender.specs.Sender.{makingSender, beginning, sending, hearing}
+use Rattle.sender.specs.Sender.{underWay, makingSender, beginning, sending, hearing}
 
 pub record World : Type 0 where
   pub sender : Sender
@@ -82,13 +82,14 @@ unfoldable pub afterHear : List ℕ → World → World
 afterHear frame w = withHeard w (hearing (w .sender) frame)
 
 -- The moments that can come about. The line delivers any frame that was ever put on it, at any time, any number of
--- times or never. A lent sound of the length begun is the sound begun, not altered while sent; others are refused.
+-- times or never. While a transfer is under way, a lent sound of the length begun is the sound begun, not altered while
+-- sent; all other sendings are refused.
 pub data Reach (cipher : Cipher) (key pair buffer : List ℕ) : World → Type 0 where
   start : length key ≡ keyBytes → length pair ≡ pairBytes → Reach cipher key pair buffer (fresh key pair buffer)
   begins : {w : World} → Reach cipher key pair buffer w → (sound : List ℕ)
       → Reach cipher key pair buffer (afterBegin sound w)
   sends : {w : World} → Reach cipher key pair buffer w → (sound frame : List ℕ)
-      → (length sound ≡ w .sender .length → sound ≡ w .sound (w .sender .session))
+      → (underWay (w .sender .phase) ≡ true → length sound ≡ w .sender .length → sound ≡ w .sound (w .sender .session))
       → Reach cipher key pair buffer (afterSend cipher sound frame w)
   receives : {w : World} → Reach cipher key pair buffer w → (frame reply : List ℕ) → List·Memᴰ frame (w .up)
       → Reach cipher key pair buffer (afterReceive cipher frame reply w)

@@ -126,7 +126,8 @@ module _ (cipher : Cipher) (ring : List (List ℕ)) (file : List ℕ) (right : A
     unfolding layout partsOf
     laid-again h =
         let p : Parts = partsOf cipher ring file in
-        ap (λ (l : List ℕ). nameSection p ++ (keySection cipher p ++ (sampleSection cipher ring p ++ l)))
+        let plain : List ℕ = bytesOfAll (p .samples) in
+        ap (λ (l : List ℕ). nameSection p ++ (keySection cipher p ++ (sampleSection cipher ring p plain ++ l)))
         (loop-again file (loopPlace cipher file) (sampleCount cipher file) b (loop-right cipher file right))
         ∙ ap (λ (l : List ℕ). nameSection p ++ (keySection cipher p ++ l))
         (sample-again file (samplePlace cipher file) stream h b (sample-right cipher file right))

@@ -76,7 +76,7 @@ module _ (cipher : Cipher) (ring : List (List ℕ)) (p : Parts) (w : Within ciph
 
   -- what is laid behind the name, and behind the key
   abbrev behindKey : List ℕ
-  behindKey = sampleSection cipher ring p ++ loopSection p
+  behindKey = sampleSection cipher ring p (bytesOfAll (p .samples)) ++ loopSection p
 
   abbrev behindName : List ℕ
   behindName = keySection cipher p ++ behindKey

@@ -1,4 +1,5 @@
 pub mod AcceptedFiles
+pub mod Demand2
 pub mod LaidFiles
 pub mod LongFiles
 pub mod Loops

@@ -1,6 +1,6 @@
--- Demand 2: sealed parts open to themselves, an opened file seals to itself, and the opener accepts exactly the layouts
--- of parts within their limits, each from the laws of accepted and of laid files. Then what refusals leave, and what a
--- ring holds and makes.
+-- The laws that Demand2.antt puts together: sealed parts open to themselves, an opened file seals to itself, and the
+-- opener accepts exactly the layouts of parts within their limits, each from the laws of accepted and of laid files.
+-- Then what refusals leave, and what a ring holds and makes.
 use Prim.Native.Nat.{ℕ, _+_, _*_, _<_, _≤_}
 use mathlib.Core.{List.List, List.[], List._∷_, Path._≡_, Path.refl, Path.sym, Path.ap, Path.subst, Path._∙_}
 use native.Mathlib.Omega.{arith}
@@ -22,7 +22,7 @@ use Rattle.pack.specs.{declared.Sealed.Sealed}
 use Rattle.pack.specs.Calls.{refusedOpening, acceptedOpening, surveying, openingPack, sealingPack}
 use Rattle.pack.specs.Faults.{faultsFromSamples, faultsFromKey, fileFaults, openFaults, sealFaults}
 use Rattle.pack.specs.Layout.{Parts, Within, keyNamed, layout}
-use Rattle.pack.specs.Ring.{keyAt, ringOf, keying}
+use Rattle.pack.specs.Ring.{keying}
 use Rattle.pack.proofs.{LaidFiles.layout-accepted, Loops.loops-even}
 use Rattle.pack.proofs.AcceptedFiles.{samples-counted, laid-again, parts-within}
 
@@ -39,7 +39,7 @@ file-right cipher file = none-wrong (fileFaults cipher file) (file-numbered ciph
 
 -- The sealer takes what is within limits, and room for it: it asks besides only that a run of loops is even, which
 -- follows.
-within-sealed : (cipher : Cipher) (p : Parts) (size room : ℕ) → Within cipher p → size ≤ room
+pub within-sealed : (cipher : Cipher) (p : Parts) (size room : ℕ) → Within cipher p → size ≤ room
     → AllRight (sealFaults cipher p size room)
 unfolding sealFaults
 within-sealed cipher p size room w h =
@@ -70,7 +70,7 @@ sealed-within cipher p size room h values bits =
 
 module _ (cipher : Cipher) (ring : List (List ℕ)) where
   -- an accepted file opens to its parts' samples, given room
-  opens : (file : List ℕ) (sound : List ℤ) (p : Parts) → AllRight (fileFaults cipher file)
+  pub opens : (file : List ℕ) (sound : List ℤ) (p : Parts) → AllRight (fileFaults cipher file)
       → partsOf cipher ring file ≡ p
       → length (p .samples) ≤ length sound
       → openingPack cipher ring file sound ≡ outcome (acceptedOpening cipher file) (placed sound 0 (p .samples))
@@ -83,7 +83,8 @@ module _ (cipher : Cipher) (ring : List (List ℕ)) where
       ∙ ap (λ (q : Parts). outcome (acceptedOpening cipher file) (placed sound 0 (q .samples))) parts
 
   -- parts that aren't refused are sealed
-  seals : (p : Parts) (output : List ℕ) → AllRight (sealFaults cipher p (length (layout cipher ring p)) (length output))
+  pub seals : (p : Parts) (output : List ℕ)
+      → AllRight (sealFaults cipher p (length (layout cipher ring p)) (length output))
       → sealingPack cipher ring p output
       ≡ outcome (record { refusal = accepted; length = length (layout cipher ring p) })
       (placed output 0 (layout cipher ring p))
@@ -183,18 +184,6 @@ unfolding keying
 keying-leaves ring number value = settled-leaves _ _ _ (λ m. m .refusal) refl (λ n. refl)
 
 -- ---- the ring
-
--- forty bytes are four keys, each with all of its ten
-pub ring-keys : (bytes : List ℕ) → 40 ≤ length bytes
-    → ringOf bytes ≡ slice bytes 0 10 ∷ slice bytes 10 10 ∷ slice bytes 20 10 ∷ slice bytes 30 10 ∷ []
-unfolding ringOf
-ring-keys bytes room =
-    λ i.
-    key-there 0 (omega arith) i ∷ key-there 10 (omega arith) i ∷ key-there 20 (omega arith) i
-    ∷ key-there 30 (omega arith) i ∷ []
-  where
-    key-there : (at : ℕ) → at + 10 ≤ length bytes → keyAt bytes at ≡ slice bytes at 10
-    key-there at h = put-whole (replicate 10 0) (slice bytes at 10) (length-slice bytes at 10 h)
 
 -- with a number of the ring and a value of ten bytes, the cipher is the row's
 pub ring-makes : (ring : List (List ℕ)) (number : ℕ) (value : List ℕ) → number ≤ lastKey

@@ -57,13 +57,19 @@ nameSection p = length (p .name) ∷ p .name
 abbrev pub keySection : Cipher → Parts → List ℕ
 keySection cipher p = suc (cipher .valueBytes) ∷ p .keyNumber ∷ p .value
 
-abbrev pub sampleSection : Cipher → List (List ℕ) → Parts → List ℕ
-sampleSection cipher ring p =
+-- `plain` is what is enciphered
+abbrev pub sampleSection : Cipher → List (List ℕ) → Parts → List ℕ → List ℕ
+sampleSection cipher ring p plain =
     row (fours 1) (length (p .samples) ∷ [])
-    ++ enciphered (cipher .stream (keyNamed ring (p .keyNumber)) (p .value)) (bytesOfAll (p .samples))
+    ++ enciphered (cipher .stream (keyNamed ring (p .keyNumber)) (p .value)) plain
 
 abbrev pub loopSection : Parts → List ℕ
 loopSection p = length (p .loops) / 2 ∷ row (fours (length (p .loops))) (p .loops)
 
+abbrev pub laid : Cipher → List (List ℕ) → Parts → List ℕ → List ℕ
+laid cipher ring p plain =
+    nameSection p ++ (keySection cipher p ++ (sampleSection cipher ring p plain ++ loopSection p))
+
+-- a pack: what is enciphered is its samples' bytes
 unfoldable pub layout : Cipher → List (List ℕ) → Parts → List ℕ
-layout cipher ring p = nameSection p ++ (keySection cipher p ++ (sampleSection cipher ring p ++ loopSection p))
+layout cipher ring p = laid cipher ring p (bytesOfAll (p .samples))

@@ -14,3 +14,7 @@ mostSamples = 16384
 
 abbrev pub mostLoops : ℕ
 mostLoops = 8
+
+-- the longest file under Trivium, which has every count at its limit
+abbrev pub longestFile : ℕ
+longestFile = 32882

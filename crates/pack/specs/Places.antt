@@ -1,4 +1,4 @@
--- Where things stand in a file: each section's place follows from the counts before it.
+-- Where things stand in a file. Each section is read by where it begins, and ends where the next one begins.
 use Prim.Native.Nat.{ℕ, _+_, _*_}
 use mathlib.Core.List.{List}
 use lib.ListN.{getD}
@@ -10,12 +10,45 @@ use Rattle.pack.specs.Layout.{Parts, fours, keyNamed}
 abbrev pub byteAt : List ℕ → ℕ → ℕ
 byteAt file at = getD file at 0
 
+-- ---- a section that begins at `at`: its count, and where it ends
+
+abbrev pub nameEnd : List ℕ → ℕ → ℕ
+nameEnd file at = at + 1 + byteAt file at
+
+abbrev pub keyEnd : Cipher → ℕ → ℕ
+keyEnd cipher at = at + 2 + cipher .valueBytes
+
+abbrev pub samplesIn : List ℕ → ℕ → ℕ
+samplesIn file at = numberAt file at 4
+
+abbrev pub samplesEnd : List ℕ → ℕ → ℕ
+samplesEnd file at = at + 4 + 2 * samplesIn file at
+
+abbrev pub loopsEnd : List ℕ → ℕ → ℕ
+loopsEnd file at = at + 1 + 8 * byteAt file at
+
+-- what a file gives for each part from its key section on, whether or not it is accepted
+abbrev pub partsFrom : Cipher → List (List ℕ) → List ℕ → List ℕ → ℕ → Parts
+partsFrom cipher ring name file at =
+    let value = slice file (at + 2) (cipher .valueBytes) in
+    let key = keyNamed ring (byteAt file (at + 1)) in
+    let samples = keyEnd cipher at in
+    let loops = samplesEnd file samples in
+    record {
+      name = name;
+      keyNumber = byteAt file (at + 1);
+      value = value;
+      samples = wordsOf (enciphered (cipher .stream key value) (slice file (samples + 4) (2 * samplesIn file samples)));
+      loops = numbersAt (fours (2 * byteAt file loops)) file (loops + 1);
+    }
+
+-- ---- a whole file, which begins with its name section
+
 abbrev pub nameCount : List ℕ → ℕ
 nameCount file = byteAt file 0
 
--- where the key section begins
 abbrev pub keyPlace : List ℕ → ℕ
-keyPlace file = 1 + nameCount file
+keyPlace file = nameEnd file 0
 
 abbrev pub keyNumber : List ℕ → ℕ
 keyNumber file = byteAt file (keyPlace file + 1)
@@ -24,20 +57,18 @@ abbrev pub valuePlace : List ℕ → ℕ
 valuePlace file = keyPlace file + 2
 
 module _ (cipher : Cipher) where
-  -- where the sample section begins
   abbrev pub samplePlace : List ℕ → ℕ
-  samplePlace file = valuePlace file + cipher .valueBytes
+  samplePlace file = keyEnd cipher (keyPlace file)
 
   abbrev pub sampleCount : List ℕ → ℕ
-  sampleCount file = numberAt file (samplePlace file) 4
+  sampleCount file = samplesIn file (samplePlace file)
 
   -- where the enciphered samples begin
   abbrev pub bodyPlace : List ℕ → ℕ
   bodyPlace file = samplePlace file + 4
 
-  -- where the loop section begins
   abbrev pub loopPlace : List ℕ → ℕ
-  loopPlace file = bodyPlace file + 2 * sampleCount file
+  loopPlace file = samplesEnd file (samplePlace file)
 
   abbrev pub loopCount : List ℕ → ℕ
   loopCount file = byteAt file (loopPlace file)
@@ -46,15 +77,5 @@ module _ (cipher : Cipher) where
   abbrev pub loopsPlace : List ℕ → ℕ
   loopsPlace file = loopPlace file + 1
 
-  -- what a file gives for each part, whether or not it is accepted
   unfoldable pub partsOf : List (List ℕ) → List ℕ → Parts
-  partsOf ring file =
-      let value = slice file (valuePlace file) (cipher .valueBytes) in
-      let key = keyNamed ring (keyNumber file) in
-      record {
-        name = slice file 1 (nameCount file);
-        keyNumber = keyNumber file;
-        value = value;
-        samples = wordsOf (enciphered (cipher .stream key value) (slice file (bodyPlace file) (2 * sampleCount file)));
-        loops = numbersAt (fours (2 * loopCount file)) file (loopsPlace file);
-      }
+  partsOf ring file = partsFrom cipher ring (slice file 1 (nameCount file)) file (keyPlace file)

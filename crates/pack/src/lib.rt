@@ -1,7 +1,9 @@
 ghost use mathlib.Core.Path.{_≡_};
+ghost use Prim.Native.Nat.{_+_, _≤_};
 ghost use lib.ListN.{length};
+ghost use Rattle.octets.specs.Buffers.{slice};
 ghost use Rattle.pack.specs.Layout.{nameGood};
-ghost use Rattle.pack.specs.Ring.{keyAt, ringOf, keying};
+ghost use Rattle.pack.specs.Ring.{ringOf, keying};
 ghost use Rattle.trivium.specs.Calls.{makingCipher};
 use trivium::Made;
 use trivium::Registers;
@@ -36,11 +38,8 @@ pub const MOST_LOOPS: usize = 8;
 // What the key section counts: its key number and an initial value.
 pub const KEY_COUNT: u8 = 11;
 
-// The four keys of a ring, one after the other.
+// The four keys of a ring.
 pub const RING_BYTES: usize = 40;
-
-// The longest file: every count at its limit.
-pub const MOST_BYTES: usize = 32882;
 
 // Whether each byte of a name is one that a name may have.
 pub fn name_good(name: &[u8]) -> bool
@@ -62,15 +61,16 @@ pub fn name_good(name: &[u8]) -> bool
 
 // One key of a ring that is lent as bytes.
 fn key_at(bytes: &[u8], at: usize) -> [u8; 10]
-    ensures { λ r. ⌜ r ≡ keyAt (now (bytes .entry)) at ⌝ }
+    requires { ⌜ at + 10 ≤ length (now bytes) ⌝ }
+    ensures { λ r. ⌜ r ≡ slice (now (bytes .entry)) at 10 ⌝ }
 {
     let mut key = [0; 10];
     octet_writer::copy(&mut key, 0, octets::slice(bytes, at, 10));
     key
 }
 
-// A ring of four keys from bytes, where they stand one after the other.
-pub fn ring_of(bytes: &[u8]) -> [[u8; 10]; 4]
+// A ring of four keys from so many bytes and no fewer, where they stand one after the other.
+pub fn ring_of(bytes: &[u8; 40]) -> [[u8; 10]; 4]
     ensures { λ r. ⌜ r ≡ ringOf (now (bytes .entry)) ⌝ }
 {
     [

@@ -14,29 +14,29 @@ use Rattle.refusals.proofs.Faults.{numbered, all-right, refused-at, rule-passes
 use Rattle.refusals.proofs.Settled.{first-here, first-later}
 use Rattle.trivium.specs.Keystream.{trivium}
 use Rattle.pack.specs.Faults.{faultsFromSamples, faultsFromKey, fileFaults, openFaults}
-use Rattle.pack.specs.Places.{sampleCount}
+use Rattle.pack.specs.{Places.sampleCount, Ring.ringBytes}
 use Rattle.pack.proofs.Theorems.{file-numbered}
-use Rattle.pack_bytes.specs.Calls.{ringSize, numbersRoom, packOpenFaults}
+use Rattle.pack_bytes.specs.Calls.{numbersRoom, packOpenFaults}
 
 -- no rule of opening has the number of a call that isn't refused
 numbered-open : (file : List ℕ) (room : ℕ) → T (numbered (openFaults trivium file room))
 unfolding openFaults fileFaults faultsFromKey faultsFromSamples
 numbered-open file room = tt
 
-module _ (file ring : List ℕ) (samples answer : ℕ) (right : length ring ≡ ringSize) where
+module _ (file ring : List ℕ) (samples answer : ℕ) (right : length ring ≡ ringBytes) where
   -- opening's own refusals
   pub opening-refuses : (n : ℕ) → n ≢ accepted → n ≡ first (openFaults trivium file samples)
       → n ≡ first (packOpenFaults file ring samples answer)
   opening-refuses n h e =
       first-here (openFaults trivium file samples) _ (numbered-open file samples) n h e
-      ∙ rule-passes (length ring unlike ringSize says badKey) _ right
+      ∙ rule-passes (length ring unlike ringBytes says badKey) _ right
 
   pub opening-passes : accepted ≡ first (openFaults trivium file samples) → numbersRoom ≤ answer
       → accepted ≡ first (packOpenFaults file ring samples answer)
   opening-passes e room =
       all-right ((answer under numbersRoom says noRoom) ∷ []) (room, tt)
       ∙ first-later (openFaults trivium file samples) _ (numbered-open file samples) e
-      ∙ rule-passes (length ring unlike ringSize says badKey) _ right
+      ∙ rule-passes (length ring unlike ringBytes says badKey) _ right
 
   -- with too little room for the answer the samples' room no longer counts
   pub file-refuses : (n : ℕ) → n ≢ accepted → n ≡ first (fileFaults trivium file)
@@ -61,4 +61,4 @@ module _ (file ring : List ℕ) (samples answer : ℕ) (right : length ring ≡ 
           refused-at 0 ((answer under numbersRoom says noRoom) ∷ []) short
           ∙ first-later (openFaults trivium file samples) _ (numbered-open file samples)
           (all-right ((sampleCount trivium file over samples says noRoom) ∷ []) (ltb-false samples _ fits, tt) ∙ later)
-          ∙ rule-passes (length ring unlike ringSize says badKey) _ right
+          ∙ rule-passes (length ring unlike ringBytes says badKey) _ right

@@ -7,12 +7,8 @@ use Rattle.refusals.specs.Numbers.{accepted, badKey, noRoom}
 use Rattle.refusals.specs.Rules.{_under_, _unlike_, Fault, _says_, settled}
 use Rattle.trivium.specs.Keystream.{trivium}
 use Rattle.pack.specs.{Calls.acceptedOpening, Faults.openFaults, Faults.sealFaults, Layout.Parts, Layout.layout}
-use Rattle.pack.specs.{Places.partsOf, Ring.ringOf, declared.Opened.Opened}
+use Rattle.pack.specs.{Places.partsOf, Ring.ringBytes, Ring.ringOf, declared.Opened.Opened}
 use Rattle.record_bytes.specs.Written.{Written, wrote}
-
--- a ring's bytes: four keys of ten
-abbrev pub ringSize : ℕ
-ringSize = 40
 
 -- ---- opening
 
@@ -35,7 +31,7 @@ packOpened samples answer number = record { number = number; samples = samples; 
 -- the ring, then the file's own rules and room for its samples, then room for the seven numbers
 abbrev pub packOpenFaults : List ℕ → List ℕ → ℕ → ℕ → List Fault
 packOpenFaults file ring samples answer =
-    (length ring unlike ringSize says badKey)
+    (length ring unlike ringBytes says badKey)
     ∷ (openFaults trivium file samples
     ++ ((answer under numbersRoom says noRoom)
     ∷ []))
@@ -50,7 +46,7 @@ packOpen file ring samples answer =
 -- ---- sealing
 
 abbrev pub packSealFaults : List ℕ → Parts → ℕ → ℕ → List Fault
-packSealFaults ring parts size room = (length ring unlike ringSize says badKey) ∷ sealFaults trivium parts size room
+packSealFaults ring parts size room = (length ring unlike ringBytes says badKey) ∷ sealFaults trivium parts size room
 
 -- `before` is what the count held
 unfoldable pub packSeal : List ℕ → Parts → List ℕ → ℕ → Written

@@ -3,10 +3,22 @@
 use pack::Opened;
 ghost use mathlib.Core.Path.{_≡_};
 ghost use mathlib.Core.List.{[], _∷_};
+ghost use lib.ListN.{length};
 ghost use Rattle.octets.specs.Buffers.{put};
 ghost use Rattle.pack.specs.Layout.{parts};
+ghost use Rattle.pack.specs.Ring.{ringBytes, ringOf};
 ghost use Rattle.record_bytes.specs.Written.{wrote};
 ghost use Rattle.pack_bytes.specs.Calls.{answerNumbers, packOpened, packOpen, packSeal};
+
+// The ring that its bytes are. An array's length is known where it is lent as an array.
+fn ring_in(bytes: &[u8]) -> [[u8; 10]; 4]
+    requires { ⌜ length (now bytes) ≡ ringBytes ⌝ }
+    ensures { λ r. ⌜ r ≡ ringOf (now (bytes .entry)) ⌝ }
+{
+    let mut own = [0; pack::RING_BYTES];
+    octet_writer::copy(&mut own, 0, bytes);
+    pack::ring_of(&own)
+}
 
 // How many numbers tell what was opened.
 const OPENED_NUMBERS: usize = 7;
@@ -49,7 +61,7 @@ pub fn open(file: &[u8], ring: &[u8], samples: &mut [i16], answer: &mut [usize])
         }
         return refusals::NO_ROOM;
     }
-    let opened = opener::open(file, pack::ring_of(ring), samples);
+    let opened = opener::open(file, ring_in(ring), samples);
     let refusal = opened.refusal;
     if refusal != refusals::ACCEPTED {
         return refusal;
@@ -76,15 +88,7 @@ pub fn seal(
     if ring.len() != pack::RING_BYTES {
         return refusals::BAD_KEY;
     }
-    let sealed = sealer::seal(
-        name,
-        pack::ring_of(ring),
-        key,
-        value,
-        samples,
-        loops,
-        output,
-    );
+    let sealed = sealer::seal(name, ring_in(ring), key, value, samples, loops, output);
     let refusal = sealed.refusal;
     if refusal != refusals::ACCEPTED {
         return refusal;

@@ -228,9 +228,9 @@ impl Sender {
                 stage.new_count < held as u32,
                 refusals::IMPOSSIBLE,
             ),
-            Told::TooLong(session) => transfer_fault(
+            Told::TooLong(named) => transfer_fault(
                 stage,
-                session != self.session,
+                named != self.session,
                 refusals::OTHER_SESSION,
                 0 < stage.new_count,
                 refusals::IMPOSSIBLE,

@@ -1,15 +1,16 @@
 -- The keystream as bytes: eight bits at a time make the bytes, so a word of bits is a word of bytes.
-use mathlib.Core.{Path._≡_, Path.sym, Path.ap, Path.ap₂, Path._∙_, List.List}
-use Prim.Native.Nat.{ℕ, _+_, _-_, _*_, _/_, _%_, _^_, _≤_}
+use mathlib.Core.{Path._≡_, Path.refl, Path.sym, Path.ap, Path.ap₂, Path._∙_, List.List}
+use Prim.Native.Nat.{ℕ, zero, suc, _+_, _-_, _*_, _/_, _%_, _^_, _≤_}
 use native.Mathlib.Omega.{arith}
 use lib.{Bits.bitXor, ListN.length, Pow.high, Pow.low}
 use Rattle.octets.specs.Buffers.{slice, placed, put}
-use Rattle.octets.specs.Digits.{number, numberAt, digits, word}
+use Rattle.octets.specs.Digits.{number, numberAfter, numberAt, digits, word, byteOf}
 use Rattle.octets.specs.Stream.{from, enciphered}
 use Rattle.octets.proofs.Numbers.{Below, digit-at}
 use Rattle.octets.proofs.Streams.{byteOfWord, word-enciphered, enciphered-same, power-of-bytes, runs-placed, Gives}
 use Rattle.octets.proofs.Streams.{under, run-under, run-put, two-under}
-use Rattle.taps.specs.{Keystream.bits, Keystream.keystream, Registers.State, Registers.steps}
+use Rattle.taps.specs.{Keystream.bits, Keystream.keystream}
+use Rattle.taps.specs.Registers.{State, next, outputBit, steps}
 use Rattle.taps.proofs.Steps.{steps-bytes, number-bits, bits-small}
 
 -- n bytes on, the keystream is that of the state 8n steps on
@@ -70,3 +71,17 @@ two-covers s mid input output left at m n one two hm hn bytes hi ho gone e done 
     two-under (keystream s) input output left at m n one two hm hn bytes hi ho
     (λ i h. ap (λ (z : ℕ). byteOfWord m z i) e ∙ word-gives m s i h) done
     (λ i h. ap (λ (z : ℕ). byteOfWord n z i) later ∙ word-gives n (steps (8 * m) s) i h ∙ on i)
+
+-- ---- registers of zeros never move, and give a keystream of zeros
+
+abbrev nothing : State
+nothing = record { a = 0; b = 0; c = 0 }
+
+still : (n : ℕ) → steps n nothing ≡ nothing
+unfolding steps next
+still zero = refl
+still (suc n) = still n
+
+pub zeros-silent : (n : ℕ) → keystream nothing n ≡ 0
+unfolding keystream bits outputBit next numberAfter
+zeros-silent n = ap (λ (s : State). byteOf (bits 8 s)) (still (8 * n))

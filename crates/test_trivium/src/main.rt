@@ -91,15 +91,12 @@ fn strides_agree(from: Registers, steps: usize) -> bool {
     let stepped = walk(from, steps);
     let further = walk(stepped.next, steps);
     let strode = from.stride();
-    let running = Running { registers: from };
+    let running = Running::of(from);
     let one = running.stride();
     let two = one.next.stride();
-    let last = two.next;
+    let last = two.next.stop();
     let alone = strode.word == stepped.word && trims(strode.next, stepped.next);
-    alone
-        && one.word == stepped.word
-        && two.word == further.word
-        && trims(further.next, last.registers)
+    alone && one.word == stepped.word && two.word == further.word && trims(last, further.next)
 }
 
 // No steps at all leave the bits above a register's own, where a skip clears them.

@@ -4,8 +4,9 @@ use Prim.Native.Nat.{ℕ, _+_, _*_}
 use Rattle.octets.specs.Digits.{number}
 use Rattle.taps.specs.{Keystream.bits, Registers.State, Registers.loaded, Registers.started, Registers.steps}
 use Rattle.taps.proofs.{Steps.held-words, Steps.held-moved, Strides.strode, Words.joined-apart}
-use Rattle.trivium.specs.{Calls.running, Calls.skipping, Record.state, Record.packed, declared.Ran.Ran}
-use Rattle.trivium.specs.{declared.Registers.Registers, declared.Running.Running}
+use Rattle.trivium.specs.Calls.{runningFrom, running, stopping, skipping}
+use Rattle.trivium.specs.{Record.state, Record.packed, declared.Ran.Ran, declared.Registers.Registers}
+use Rattle.trivium.specs.declared.Running.{Running}
 pub use Rattle.taps.proofs.Steps.{Held, held-steps, steps-none, steps-add, steps-bytes, length-bits, bits-below}
 
 pub held-state : (r : Registers) → Held (state r)
@@ -43,7 +44,15 @@ skip-from r now n m e = ap packed (ap (steps (8 * m)) e ∙ sym (steps-bytes n m
 pub skip-add : (r : Registers) (n m : ℕ) → skipping (skipping r n) m ≡ skipping r (n + m)
 skip-add r n m = skip-from r (skipping r n) n m (state-skip r n)
 
--- ---- strides in a run, for callers, who need not unfold `running`
+-- ---- a run of strides, for callers, who need not unfold its definitions
+
+pub run-begun : (r : Registers) (w : Running) → w ≡ runningFrom r → state (w .registers) ≡ state r
+unfolding runningFrom
+run-begun r w e = ap (λ (x : Running). state (x .registers)) e
+
+pub run-stopped : (w : Running) (r : Registers) → r ≡ stopping w → state r ≡ state (w .registers)
+unfolding stopping
+run-stopped w r e = ap state e ∙ state-packed (state (w .registers)) (held-state (w .registers))
 
 pub ran-word : (w : Running) (r : Ran) → r ≡ running w → r .word ≡ number 2 (bits 64 (state (w .registers)))
 unfolding running

@@ -5,14 +5,15 @@ use native.Mathlib.Omega.{arith}
 use lib.{ListN.length, ListN.take, ListN.drop, ListN.length-append, ListN.length-drop, Pow.shr-lt}
 use Rattle.octets.specs.{Buffers.placed, Digits.number, Stream.Keystream, Stream.enciphered}
 use Rattle.octets.proofs.Streams.{length-enciphered, enciphered-twice, enciphered-front, enciphered-cut}
-use Rattle.refusals.specs.{Numbers.accepted, Outcome.outcome, Rules.Leaves}
-use Rattle.refusals.proofs.Settled.{done-if, settled-leaves}
+use Rattle.refusals.specs.{Numbers.accepted, Outcome.Outcome, Outcome.outcome, Rules.Leaves, Rules.settled}
+use Rattle.refusals.proofs.Settled.{done-if, settled-leaves, settled-map, by-settled, answer-done}
 use Rattle.taps.specs.Keystream.{bits, keystream}
-use Rattle.taps.specs.Registers.{State, next, steps, started, outputBit}
-use Rattle.taps.proofs.{Bytes.keystream-from, Steps.Held, Steps.held-steps}
-use Rattle.trivium.specs.{Engines.plainly, Engines.plainBits, Record.state, Record.packed}
-use Rattle.trivium.specs.{declared.Enciphered.Enciphered, declared.Registers.Registers, declared.Running.Running}
-use Rattle.trivium.specs.Calls.{refusedMaking, makingCipher, stepping, striding, running, skipping, enciphering}
+use Rattle.taps.specs.Registers.{State, loaded, next, steps, started, outputBit}
+use Rattle.taps.proofs.{Bytes.keystream-from, Steps.Held, Steps.held-steps, Steps.held-moved}
+use Rattle.trivium.specs.{Engines.plainly, Engines.plainBits, Record.state, Record.packed, Record.Clean}
+use Rattle.trivium.specs.{declared.Enciphered.Enciphered, declared.Made.Made, declared.Registers.Registers}
+use Rattle.trivium.specs.{declared.Running.Running, Calls.refusedMaking, Calls.makeFaults, Calls.makingCipher}
+use Rattle.trivium.specs.Calls.{stepping, striding, running, stopping, skipping, encipherFaults, enciphering}
 use Rattle.trivium.proofs.Steps.{held-state, state-steps, state-skip, skip-add, ran-word, ran-state}
 
 -- ---- a refused call leaves everything as given
@@ -64,22 +65,6 @@ unfolding striding
 running-agrees w =
     (ran-word w (running w) refl, ran-state w (running w) refl ∙ sym (state-steps 64 (w .registers)))
 
--- ---- spare bits
-
-pub record Clean (r : Registers) : Type 0 where
-  pub a : r .a1 < 2 ^ 29
-  pub b : r .b1 < 2 ^ 20
-  pub c : r .c1 < 2 ^ 47
-
--- a record that a call hands back has every spare bit zero
-pub clean : (s : State) → Held s → Clean (packed s)
-unfolding packed
-clean s h = record { a = shr-lt 29 64 (h .a); b = shr-lt 20 64 (h .b); c = shr-lt 47 64 (h .c) }
-
-pub clean-skip : (r : Registers) (n : ℕ) → Clean (skipping r n)
-unfolding skipping
-clean-skip r n = clean (steps (8 * n) (state r)) (held-steps (8 * n) (state r) (held-state r))
-
 -- ---- enciphering
 
 -- with room the call isn't refused
@@ -89,6 +74,101 @@ pub enciphers : (r : Registers) (input output : List ℕ) → length input ≤ l
     (placed output 0 (enciphered (keystream (state r)) input))
 unfolding enciphering
 enciphers r input output room = sym (done-if _ _ _ (room, tt))
+
+-- and with 0 it wasn't
+unrefused : (r : Registers) (input output : List ℕ) → enciphering r input output .answer .refusal ≡ accepted
+    → enciphering r input output
+    ≡ outcome (record { refusal = accepted; next = skipping r (length input) })
+    (placed output 0 (enciphered (keystream (state r)) input))
+unfolding enciphering
+unrefused r input output z = answer-done _ _ _ (λ o. o .answer .refusal) refl (λ n. refl) refl z
+
+-- ---- spare bits
+
+clean : (s : State) → Held s → Clean (packed s)
+unfolding packed
+clean s h = record { a = shr-lt 29 64 (h .a); b = shr-lt 20 64 (h .b); c = shr-lt 47 64 (h .c) }
+
+clean-steps : (n : ℕ) (r : Registers) → Clean (packed (steps n (state r)))
+clean-steps n r = clean (steps n (state r)) (held-steps n (state r) (held-state r))
+
+-- they come back zero from every call that isn't refused, whatever they were
+pub clean-made : (key iv : List ℕ) → Clean (makingCipher key iv .registers)
+unfolding makingCipher
+clean-made key iv =
+    by-settled (makeFaults key iv) _ _ (λ (m : Made). Clean (m .registers))
+    (λ e. clean (started key iv) (held-moved 1151 (loaded key iv)))
+    (λ n e h. record { a = omega arith; b = omega arith; c = omega arith })
+
+pub clean-stepped : (r : Registers) → Clean (stepping r .next)
+unfolding stepping steps
+clean-stepped r = clean-steps 1 r
+
+pub clean-strode : (r : Registers) → Clean (striding r .next)
+unfolding striding
+clean-strode r = clean-steps 64 r
+
+pub clean-skipped : (r : Registers) (n : ℕ) → Clean (skipping r n)
+unfolding skipping
+clean-skipped r n = clean-steps (8 * n) r
+
+pub clean-enciphered : (r : Registers) (input output : List ℕ)
+    → let answer = enciphering r input output .answer in answer .refusal ≡ accepted → Clean (answer .next)
+clean-enciphered r input output z = rw (unrefused r input output z) (clean-skipped r (length input))
+
+pub clean-stopped : (w : Running) → Clean (stopping w)
+unfolding stopping
+clean-stopped w = clean (state (w .registers)) (held-state (w .registers))
+
+-- They are ignored: records that stand for the same state are the same to every call. One that is refused hands back
+-- the record that it was given.
+module _ (r q : Registers) (same : state r ≡ state q) where
+  pub same-stepped : stepping r ≡ stepping q
+  unfolding stepping
+  same-stepped = λ i. record { bit = outputBit (same i); next = packed (next (same i)) }
+
+  pub same-strode : striding r ≡ striding q
+  unfolding striding
+  same-strode = λ i. record { word = number 2 (bits 64 (same i)); next = packed (steps 64 (same i)) }
+
+  pub same-skipped : (n : ℕ) → skipping r n ≡ skipping q n
+  unfolding skipping
+  same-skipped n = λ i. packed (steps (8 * n) (same i))
+
+  module _ (input output : List ℕ) where
+    pub same-number : enciphering r input output .answer .refusal ≡ enciphering q input output .answer .refusal
+    unfolding enciphering
+    same-number =
+        settled-map (λ (o : Outcome Enciphered ℕ). o .answer .refusal) (encipherFaults input output) _ _
+        ∙ sym (settled-map (λ (o : Outcome Enciphered ℕ). o .answer .refusal) (encipherFaults input output) _ _)
+
+    pub same-buffer : enciphering r input output .buffer ≡ enciphering q input output .buffer
+    unfolding enciphering
+    same-buffer =
+        settled-map (λ (o : Outcome Enciphered ℕ). o .buffer) (encipherFaults input output) _ _
+        ∙ ap (λ (s : State). settled (encipherFaults input output)
+        (placed output 0 (enciphered (keystream s) input)) (λ n. output)) same
+        ∙ sym (settled-map (λ (o : Outcome Enciphered ℕ). o .buffer) (encipherFaults input output) _ _)
+
+    pub same-enciphered : enciphering r input output .answer .refusal ≡ accepted
+        → enciphering r input output ≡ enciphering q input output
+    same-enciphered z =
+        unrefused r input output z
+        ∙ (λ i.
+        outcome {A = Enciphered} (record { refusal = accepted; next = same-skipped (length input) i })
+        (placed output 0 (enciphered (keystream (same i)) input)))
+        ∙ sym (unrefused q input output (sym same-number ∙ z))
+
+-- in a run as well
+pub same-ran : (w v : Running) → state (w .registers) ≡ state (v .registers)
+    → (running w .word ≡ running v .word) × (state (running w .next .registers) ≡ state (running v .next .registers))
+    × (stopping w ≡ stopping v)
+unfolding stopping
+same-ran w v same = (
+  ran-word w _ refl ∙ ap (λ (s : State). number 2 (bits 64 s)) same ∙ sym (ran-word v _ refl),
+  ran-state w _ refl ∙ ap (steps 64) same ∙ sym (ran-state v _ refl),
+  ap packed same,
+)
 
 -- A stream taken in two calls, the second at the place where the first stopped, is the stream taken in one.
 pub cut : (r : Registers) (xs ys output : List ℕ) → length xs + length ys ≤ length output

@@ -37,7 +37,11 @@ strides n r = record { word = number 2 (bits n (state r)); next = packed (steps 
 unfoldable pub striding : Registers → Strode
 striding r = strides 64 r
 
--- 64 bits in a run of strides: a register's upper word is, whole, what was its newest word
+-- a run of strides begins with every word of a record
+unfoldable pub runningFrom : Registers → Running
+runningFrom r = record { registers = r }
+
+-- 64 bits in a run: a register's upper word is, whole, what was its newest word
 unfoldable pub running : Running → Ran
 running w =
     let r : Registers = w .registers in
@@ -57,6 +61,10 @@ running w =
                 };
           };
     }
+
+-- and at its end the record has every spare bit zero
+unfoldable pub stopping : Running → Registers
+stopping w = packed (state (w .registers))
 
 -- whole bytes passed over
 unfoldable pub skipping : Registers → ℕ → Registers

@@ -1,5 +1,5 @@
 -- The cipher record and the registers that it stands for: two words a register, the upper first.
-use Prim.Native.Nat.{_/_, _%_, _^_}
+use Prim.Native.Nat.{_/_, _%_, _^_, _<_}
 use Rattle.taps.specs.{Registers.State, Words.ofWords}
 use Rattle.trivium.specs.declared.Registers.{Registers}
 
@@ -18,3 +18,9 @@ packed s =
       c1 = s .c / 2 ^ 64;
       c0 = s .c % 2 ^ 64;
     }
+
+-- every spare bit is zero
+pub record Clean (r : Registers) : Type 0 where
+  pub a : r .a1 < 2 ^ 29
+  pub b : r .b1 < 2 ^ 20
+  pub c : r .c1 < 2 ^ 47

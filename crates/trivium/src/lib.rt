@@ -4,8 +4,8 @@ ghost use lib.ListN.{length};
 ghost use Rattle.refusals.specs.Outcome.{outcome};
 ghost use Rattle.taps.specs.Registers.{steps, loaded, warmUp};
 ghost use Rattle.taps.specs.Words.{newest};
-ghost use Rattle.trivium.specs.Calls.{refusedMaking, makingCipher, stepping, strides, striding, running};
-ghost use Rattle.trivium.specs.Calls.{skipping, partEnciphered, enciphering};
+ghost use Rattle.trivium.specs.Calls.{refusedMaking, makingCipher, stepping, strides, striding, skipping};
+ghost use Rattle.trivium.specs.Calls.{runningFrom, running, stopping, partEnciphered, enciphering};
 ghost use Rattle.trivium.specs.Record.{state, packed};
 
 // The 288 bits: a register's upper bits stand in its word 1 and its 64 newest in its word 0, the newest of all as the
@@ -36,10 +36,10 @@ pub struct Strode {
 }
 
 // Registers in a run of strides. A stride here moves whole words and clears nothing, so a register's word 1 goes on
-// holding bits that the cipher is done with. This is no cipher record: the calls on `Registers` ignore such bits and,
-// unless they refuse, hand none back.
+// holding bits that the cipher is done with. This is no cipher record, and nobody else can take one out of it but by
+// `stop`, which clears them.
 pub struct Running {
-    pub registers: Registers,
+    registers: Registers,
 }
 
 pub struct Ran {
@@ -198,21 +198,6 @@ impl Registers {
         last.next
     }
 
-    // Sixteen bytes from `at`. After two strides each word of the registers is back in its place: a loop of these moves
-    // none.
-    fn encipher_sixteen(self, input: &[u8], output: &mut [u8], at: usize) -> Registers
-        requires { ⌜ (at + 16 ≤ length (now input)) × (at + 16 ≤ length (now output)) ⌝ }
-        ensures { λ r. ⌜ (state r ≡ steps 128 (state self))
-            × (now (output .exit) ≡ partEnciphered self (now (input .entry)) (now (output .entry)) at 16) ⌝ }
-    {
-        let running = Running { registers: self };
-        let one = running.stride();
-        octet_writer::cover(input, output, at, 8, one.word);
-        let two = one.next.stride();
-        octet_writer::cover(input, output, at + 8, 8, two.word);
-        two.next.registers
-    }
-
     // What is left behind the sixteens: eight bytes or none of them, and the bytes behind those.
     fn encipher_rest(self, input: &[u8], output: &mut [u8], at: usize, bytes: usize) -> Registers
         requires { ⌜ (bytes < 16) × (at + bytes ≤ length (now input)) × (at + bytes ≤ length (now output)) ⌝ }
@@ -240,12 +225,13 @@ impl Registers {
                 next: self,
             };
         }
-        let mut registers = self;
+        let mut running = Running { registers: self };
         let mut at = 0;
         while at + 16 <= n {
-            registers = registers.encipher_sixteen(input, output, at);
+            running = running.encipher_sixteen(input, output, at);
             at += 16;
         }
+        let registers = running.registers;
         Enciphered {
             refusal: refusals::ACCEPTED,
             next: registers.encipher_rest(input, output, at, n - at),
@@ -254,6 +240,31 @@ impl Registers {
 }
 
 impl Running {
+    // A run from a cipher record, with every word as it is.
+    pub fn of(registers: Registers) -> Running
+        ensures { λ r. ⌜ r ≡ runningFrom registers ⌝ }
+    {
+        Running { registers }
+    }
+
+    // The cipher record where the run has come to.
+    pub fn stop(self) -> Registers
+        ensures { λ r. ⌜ r ≡ stopping self ⌝ }
+    {
+        let last = self.registers;
+        let a = last.a1;
+        let b = last.b1;
+        let c = last.c1;
+        Registers {
+            a1: a % A_TOP,
+            a0: last.a0,
+            b1: b % B_TOP,
+            b0: last.b0,
+            c1: c % C_TOP,
+            c0: last.c0,
+        }
+    }
+
     // 64 bits and 64 steps, as `Registers::stride`; three words fewer to clear at each turn of a loop.
     pub fn stride(self) -> Ran
         ensures { λ r. ⌜ r ≡ running self ⌝ }
@@ -273,5 +284,20 @@ impl Running {
                 },
             },
         }
+    }
+
+    // Sixteen bytes from `at`. After two strides each word of the registers is back in its place: a loop of these moves
+    // none.
+    fn encipher_sixteen(self, input: &[u8], output: &mut [u8], at: usize) -> Running
+        requires { ⌜ (at + 16 ≤ length (now input)) × (at + 16 ≤ length (now output)) ⌝ }
+        ensures { λ r. ⌜ (state (r .registers) ≡ steps 128 (state (self .registers)))
+            × (now (output .exit)
+            ≡ partEnciphered (self .registers) (now (input .entry)) (now (output .entry)) at 16) ⌝ }
+    {
+        let one = self.stride();
+        octet_writer::cover(input, output, at, 8, one.word);
+        let two = one.next.stride();
+        octet_writer::cover(input, output, at + 8, 8, two.word);
+        two.next
     }
 }

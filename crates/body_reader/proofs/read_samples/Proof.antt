@@ -1,6 +1,6 @@
 -- `body_reader::read_samples` meets its contract: after each turn the samples of the first `at` bytes are in place, and
 -- the registers have gone as far.
-use mathlib.Core.{Path._≡_, Path.refl, Path.sym, Path.ap, Path._∙_, List.List}
+use mathlib.Core.{Path._≡_, Path.refl, Path.sym, Path.ap, Path.ap₂, Path._∙_, List.List}
 use Prim.Native.Nat.{ℕ, _+_, _-_, _*_, _/_, _%_, _≤_}
 use native.Mathlib.Omega.{arith}
 use lib.{IntN.ℤ, ListN.length, ListN.take, Seq.length-take-le, Seq.take-all, Seq.take-add}
@@ -8,7 +8,7 @@ use Rattle.octets.specs.{Buffers.slice, Buffers.put, Stream.enciphered}
 use Rattle.octets.proofs.{Buffers.put-none, Buffers.put-nothing, Slices.length-slice}
 use Rattle.samples.specs.Words.{wordsOf}
 use Rattle.trivium.specs.{Keystream.keystream, Record.state, Registers.State, Registers.steps}
-use Rattle.trivium.proofs.Steps.{steps-none, steps-bytes}
+use Rattle.trivium.proofs.Steps.{steps-none, steps-bytes, run-begun, run-stopped}
 use Rattle.body_reader.proofs.{Samples.length-read, Samples.samples-on, read_samples.Statement.statement}
 use Rattle.body_reader.proofs.read_samples.Tie as tie
 
@@ -48,21 +48,17 @@ returns c =
 
 loop-holds : tie.Need-loop-holds Inv-loop μ-loop
 loop-holds c =
-    let p = c .before .before .args in (
-      omega arith,
-      refl,
-      refl,
-      sym (steps-none (state (p .start))),
-      nothing (state (p .start)) (p .body .now)
-          (p .output .now),
-    )
+    let p = c .before .before .before .args in
+    let s : State = state (c .of .result .registers) in
+    (omega arith, refl, refl, sym (steps-none s), nothing s (p .body .now) (p .output .now))
 
 loop-again : tie.Need-loop-again Inv-loop μ-loop
 loop-again c =
     let m = c .before in
     let l = m .before .before .before .loop in
-    let p = m .before .before .before .before .before .before .args in
-    let s : State = state (p .start) in (
+    let begun = m .before .before .before .before in
+    let p = begun .before .before .before .args in
+    let s : State = state (begun .of .result .registers) in (
       omega arith,
       omega arith,
       m .read-chunk .kept .1 .1 .0 ∙ l .inv .2,
@@ -74,26 +70,28 @@ loop-again c =
     )
 
 same-length : tie.Need-same-length Inv-loop μ-loop
-same-length c = c .before .read-rest .kept .1 .1 .0 ∙ c .before .before .before .before .loop .inv .2
+same-length c = c .before .read-rest .kept .1 .1 .0 ∙ c .before .before .before .before .before .loop .inv .2
 
 returns-2 : tie.Need-returns-2 Inv-loop μ-loop
 returns-2 c =
     let m = c .before in
-    let l = m .before .before .before .loop in
-    let p = m .before .before .before .before .before .before .args in
-    let s : State = state (p .start) in
+    let last = m .before .before in
+    let l = last .before .before .loop in
+    let begun = last .before .before .before in
+    let p = begun .before .before .before .args in
+    let s : State = state (begun .of .result .registers) in
     let n : ℕ = length (p .body .now) in
     let whole : l .at + (n - l .at) ≡ n = omega arith in
     m .read-rest .ensures
-    ∙ further s (state (l .running .registers)) (p .body .now) (p .output .now) (l .output) (l .at) (n - l .at)
-    (l .inv .1)
-    (omega arith) (omega arith) (l .inv .3) (l .inv .4)
+    ∙ further s (state (last .stop .result)) (p .body .now) (p .output .now) (l .output) (l .at) (n - l .at) (l .inv .1)
+    (omega arith) (omega arith) (run-stopped (l .running) _ (last .stop .ensures) ∙ l .inv .3) (l .inv .4)
     ∙ ap (read s (p .body .now) (p .output .now)) whole
-    ∙ ap (λ (l : List ℕ). put (p .output .now) 0 (wordsOf (enciphered (keystream s) l)))
-    (take-all n (p .body .now) (omega arith))
+    ∙ ap₂ (λ (s : State) (l : List ℕ). put (p .output .now) 0 (wordsOf (enciphered (keystream s) l)))
+    (run-begun (p .start) _ (begun .of .ensures)) (take-all n (p .body .now) (omega arith))
 
 pub read-samples-spec : {M : Type 1} → statement M
 read-samples-spec =
     tie.close
-    (tie.spec Inv-loop μ-loop returns loop-holds (λ c. omega arith) (λ c κs. omega arith) (λ c. omega arith)
-    (λ c. omega arith) loop-again (λ c. omega arith) (λ c κs. omega arith) same-length returns-2)
+    (tie.spec Inv-loop μ-loop returns (λ c κs. tt) loop-holds (λ c. omega arith) (λ c κs. omega arith)
+    (λ c. omega arith) (λ c. omega arith) loop-again (λ c κs. tt) (λ c. omega arith) (λ c κs. omega arith) same-length
+    returns-2)

@@ -10,8 +10,9 @@ use Rattle.octets.proofs.Buffers.{put-placed, take-placed, placed-part}
 use Rattle.refusals.specs.Outcome.{Outcome}
 use Rattle.samples.specs.Words.{bytesOfAll}
 use Rattle.samples.proofs.Words.{length-bytes}
-use Rattle.trivium.specs.{Calls.enciphering, Keystream.keystream, Record.state, declared.Enciphered.Enciphered}
-use Rattle.trivium.proofs.Theorems.{enciphers}
+use Rattle.trivium.specs.{Calls.enciphering, Keystream.keystream, Record.state, Registers.State}
+use Rattle.trivium.specs.declared.Enciphered.{Enciphered}
+use Rattle.trivium.proofs.{Steps.run-stopped, Theorems.enciphers}
 use Rattle.body_writer.proofs.{Samples.length-written, write_rest.Statement.statement}
 use Rattle.body_writer.proofs.write_rest.Tie as tie
 
@@ -26,16 +27,19 @@ front some room n e h =
 returns : tie.Need-returns
 returns c =
     let e = c .before .before in
-    let cut = e .before .before in
+    let on = e .before .before in
+    let cut = on .before in
     let w = cut .before .before .before in
     let b = w .before .before .before in
     let p = b .before .before .args in
+    let r = on .stop .result in
+    let same = run-stopped (p .running) r (on .stop .ensures) in
     let some : List ℤ = drop (p .from) (p .samples .now) in
-    let run : List ℕ = enciphered (keystream (state (p .registers))) (bytesOfAll some) in
+    let run : List ℕ = enciphered (keystream (state r)) (bytesOfAll some) in
     let n : ℕ = length (p .samples .now) - p .from in
     let count : length some ≡ n = length-drop (p .from) (p .samples .now) in
     let twice : length (bytesOfAll some) ≡ 2 * n = length-bytes some ∙ ap (λ (k : ℕ). 2 * k) count in
-    let long = length-written (keystream (state (p .registers))) some in
+    let long = length-written (keystream (state r)) some in
     let part : List ℕ = slice (p .output .now) (p .at) (length (p .output .now) - p .at) in
     let room : length (bytesOfAll some) ≤ length part = simp (length-take, length-drop) (omega arith) in
     let bytes : cut .slice .result .now ≡ bytesOfAll some =
@@ -43,17 +47,18 @@ returns c =
     ∙ ap (take (2 * n)) (w .write-words .ensures)
     ∙ ap (λ (l : List ℤ). take (2 * n) (put (b .blank .result) 0 (bytesOfAll l))) (take-all n some (omega arith))
     ∙ front some (b .blank .result) (2 * n) twice (omega arith) in
-    let left = e .encipher .ensures ∙ ap (λ (l : List ℕ). enciphering (p .registers) l part) bytes
-    ∙ enciphers (p .registers) (bytesOfAll some) part room in
+    let left = e .encipher .ensures ∙ ap (λ (l : List ℕ). enciphering r l part) bytes
+    ∙ enciphers r (bytesOfAll some) part room in
     ap (λ (o : Outcome Enciphered ℕ). take (p .at) (p .output .now)
     ++ (o .buffer ++ drop (length (p .output .now) - p .at) (drop (p .at) (p .output .now)))) left
     ∙ placed-part (p .output .now) (p .at) run (omega arith)
     ∙ sym (put-placed (p .output .now) (p .at) run (omega arith))
+    ∙ ap (λ (s : State). put (p .output .now) (p .at) (enciphered (keystream s) (bytesOfAll some))) same
 
 pub write-rest-spec : {M : Type 1} → statement M
 write-rest-spec =
     tie.close
     (tie.spec (λ c κs. search needs) (λ c. search needs) (λ c. search needs) (λ c. search needs) (λ c. search needs)
     (λ c. search needs) (λ c κs. search needs) (λ c. search needs) (λ c. search needs) (λ c. search needs)
-    (λ c κs. search needs) (λ c. search needs) (λ c. search needs) (λ c. search needs) (λ c κs. search needs)
-    (λ c. search needs) returns)
+    (λ c κs. search needs) (λ c κs. search needs) (λ c. search needs) (λ c. search needs) (λ c. search needs)
+    (λ c κs. search needs) (λ c. search needs) returns)

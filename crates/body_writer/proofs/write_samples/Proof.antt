@@ -1,6 +1,6 @@
 -- `body_writer::write_samples` meets its contract: after each turn `done` bytes of the samples are written, and the
 -- registers have gone as far.
-use mathlib.Core.{Path._≡_, Path.refl, Path.sym, Path.ap, Path._∙_, List.List, List._++_}
+use mathlib.Core.{Path._≡_, Path.refl, Path.sym, Path.ap, Path.ap₂, Path._∙_, List.List, List._++_}
 use Prim.Native.Nat.{ℕ, _+_, _-_, _*_, _/_, _%_, _<_, _≤_}
 use native.Mathlib.Omega.{arith}
 use lib.{IntN.ℤ, Seq.length-take-le, Seq.take-add}
@@ -9,7 +9,7 @@ use Rattle.octets.specs.{Buffers.slice, Buffers.put, Stream.enciphered}
 use Rattle.octets.proofs.{Buffers.put-none, Buffers.put-nothing, Slices.length-slice}
 use Rattle.samples.specs.Words.{bytesOfAll}
 use Rattle.trivium.specs.{Keystream.keystream, Record.state, Registers.State, Registers.steps}
-use Rattle.trivium.proofs.Steps.{steps-none, steps-bytes}
+use Rattle.trivium.proofs.Steps.{steps-none, steps-bytes, run-begun}
 use Rattle.body_writer.proofs.{Samples.length-written, Samples.samples-on, write_samples.Statement.statement}
 use Rattle.body_writer.proofs.write_samples.Tie as tie
 
@@ -64,16 +64,17 @@ returns-2 c =
 
 loop-holds : tie.Need-loop-holds Inv-loop μ-loop
 loop-holds c =
-    let p = c .before .before .before .args in
-    let s : State = state (p .registers) in
+    let p = c .before .before .before .before .args in
+    let s : State = state (c .of .result .registers) in
     (omega arith, refl, refl, sym (steps-none s), nothing s (p .output .now) (p .at) (p .samples .now))
 
 loop-again : tie.Need-loop-again Inv-loop μ-loop
 loop-again c =
     let w = c .before .before in
     let l = w .before .before .before .loop in
-    let p = w .before .before .before .before .before .before .before .args in
-    let s : State = state (p .registers) in
+    let begun = w .before .before .before .before in
+    let p = begun .before .before .before .before .args in
+    let s : State = state (begun .of .result .registers) in
     let more : List ℤ = slice (p .samples .now) (l .done / 2) 8 in
     let count : length more ≡ 8 = length-slice (p .samples .now) (l .done / 2) 8 (omega arith) in
     let on : l .done / 2 + 8 ≡ (l .done + 16) / 2 = omega arith in (
@@ -96,18 +97,19 @@ returns-3 : tie.Need-returns-3 Inv-loop μ-loop
 returns-3 c =
     let w = c .before .before in
     let l = w .before .before .before .loop in
-    let p = w .before .before .before .before .before .before .before .args in
-    let s : State = state (p .registers) in
+    let begun = w .before .before .before .before in
+    let p = begun .before .before .before .before .args in
+    let s : State = state (begun .of .result .registers) in
     let count = length-drop (l .done / 2) (p .samples .now) in
     w .write-rest .ensures
     ∙ further s (state (l .running .registers)) (p .samples .now) (drop (l .done / 2) (p .samples .now))
-    (p .output .now) (l .output)
-    (p .at) (l .done) (l .inv .1) (omega arith) (omega arith) (l .inv .3) (l .inv .4)
-    ∙ ap (written s (p .output .now) (p .at)) (take-append-drop (l .done / 2) (p .samples .now))
+    (p .output .now) (l .output) (p .at) (l .done) (l .inv .1) (omega arith) (omega arith) (l .inv .3) (l .inv .4)
+    ∙ ap₂ (λ (s : State). written s (p .output .now) (p .at)) (run-begun (p .registers) _ (begun .of .ensures))
+    (take-append-drop (l .done / 2) (p .samples .now))
 
 pub write-samples-spec : {M : Type 1} → statement M
 write-samples-spec =
     tie.close
-    (tie.spec Inv-loop μ-loop (λ c. omega arith) returns (λ c. omega arith) returns-2 loop-holds (λ c. omega arith)
-    (λ c. omega arith) (λ c κs. omega arith) (λ c. omega arith) (λ c. omega arith) loop-again (λ c. omega arith)
-    (λ c κs. omega arith) same-length returns-3)
+    (tie.spec Inv-loop μ-loop (λ c. omega arith) returns (λ c. omega arith) returns-2 (λ c κs. tt) loop-holds
+    (λ c. omega arith) (λ c. omega arith) (λ c κs. omega arith) (λ c. omega arith) (λ c. omega arith) loop-again
+    (λ c. omega arith) (λ c κs. omega arith) same-length returns-3)

@@ -11,7 +11,7 @@ use Rattle.trivium.specs.Keystream.{trivium}
 use Rattle.blocks.specs.Covering.{covered}
 use Rattle.blocks.proofs.Covering.{length-covered}
 use Rattle.frames.specs.Frames.{block, bytes}
-use Rattle.frames.proofs.FramesWritten.{short, length-short, length-block, block-written}
+use Rattle.frames.proofs.FramesWritten.{with-number, short, length-short, length-block, block-written}
 use Rattle.frames.proofs.write_block.Statement.{statement}
 use Rattle.frames.proofs.write_block.Tie as tie
 
@@ -54,8 +54,12 @@ returns-3 c =
     let first : List ℕ = short 2 (p .session) 2 (p .k) in
     let head = length-short 2 (p .session) 2 (p .k) in
     let long = length-block (p .session) (p .k) run in
-    let front = headed .write-short .ensures ∙ put-placed d 0 first (omega arith) in
-    covering .cover .ensures
+    let front =
+    with-number (λ (n : ℕ). put d 0 (short 2 (p .session) 2 n)) (p .k) (headed .write-short .ensures) (omega arith)
+    ∙ put-placed d 0 first (omega arith) in
+    with-number
+    (λ (n : ℕ). put (counted .write-number .last .0) 8 (covered trivium (p .key .now) (p .pair .now) (p .session) n R))
+    (p .k) (covering .cover .ensures) (omega arith)
     ∙ ap (λ (e : List ℕ). put e 8 run)
     (counted .write-number .ensures ∙ (λ j. put (front j) 7 (digits 256 1 (sym same j))))
     ∙ block-written d (p .session) (p .k) run (omega arith)

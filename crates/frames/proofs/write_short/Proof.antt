@@ -6,7 +6,7 @@ use borrow.Author.Needs.{needs}
 use lib.ListN.{length}
 use Rattle.octets.specs.{Buffers.put, Digits.digits}
 use Rattle.octets.proofs.{Buffers.put-none, Rows.row-written}
-use Rattle.frames.proofs.FramesWritten.{short, length-short}
+use Rattle.frames.proofs.FramesWritten.{with-number, short, length-short}
 use Rattle.frames.proofs.write_short.Statement.{statement}
 use Rattle.frames.proofs.write_short.Tie as tie
 
@@ -29,7 +29,8 @@ returns-3 c =
     let one = two .before .before .before .before in
     let p = one .before .before .before .before .before .args in
     let long = length-short (p .kind) (p .session) (p .width) (p .number) in
-    three .write-number3 .ensures
+    with-number (λ (n : ℕ). put (two .write-number2 .last .0) 5 (digits 256 (p .width) n)) (p .number)
+    (three .write-number3 .ensures) (omega arith)
     ∙ ap (λ (d : List ℕ). put d 5 (digits 256 (p .width) (p .number)))
     (two .write-number2 .ensures
     ∙ ap (λ (d : List ℕ). put d 1 (digits 256 4 (p .session))) (one .write-number .ensures))

@@ -24,7 +24,7 @@ own s =
     let p = s .before .before .before .before .before .before .before .before .args in
     s .«open» .ensures
     ∙ ap (λ (ring : List (List ℕ)). openingPack trivium ring (p .file .now) (p .samples .now))
-    (s .before .before .ring-of .ensures)
+    (s .before .before .ring-in .ensures)
 
 returns : tie.Need-returns
 unfolding packOpen
@@ -81,6 +81,6 @@ returns-5 c =
 pub open-spec : {M : Type 1} → statement M
 open-spec =
     tie.close
-    (tie.spec returns (λ c κs. tt) returns-2 returns-3 (λ c κs. tt) (λ c κs. tt) (λ c. search needs) returns-4
+    (tie.spec returns (λ c κs. tt) returns-2 returns-3 (λ c κs. search needs) (λ c κs. tt) (λ c. search needs) returns-4
     (λ c κs. tt)
     (λ c. search needs) (λ c. search needs) returns-5)

@@ -23,7 +23,7 @@ own s =
     s .seal .ensures
     ∙ ap (λ (ring : List (List ℕ)). sealingPack trivium ring
     (parts (p .name .now) (p .key) (p .value .now) (p .samples .now) (p .loops .now)) (p .output .now))
-    (s .before .before .ring-of .ensures)
+    (s .before .before .ring-in .ensures)
 
 returns : tie.Need-returns
 unfolding packSeal
@@ -55,4 +55,4 @@ returns-3 c =
 pub seal-spec : {M : Type 1} → statement M
 seal-spec =
     tie.close
-    (tie.spec returns (λ c κs. tt) (λ c κs. tt) (λ c. search needs) returns-2 (λ c. search needs) returns-3)
+    (tie.spec returns (λ c κs. search needs) (λ c κs. tt) (λ c. search needs) returns-2 (λ c. search needs) returns-3)

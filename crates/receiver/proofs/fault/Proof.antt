@@ -49,33 +49,32 @@ unfolding Says
 returns-3 c o run e =
     let t = c .before .before in
     subst (Says _ _ _ run _) (sym (t .what2 .given .1))
-    (refused-at 2 _ (within (t .before .before) o, (refl, c .if3 .taken)))
+    (refused-at 2 _ (within (t .before .before) o, (refl, omega arith)))
 
 returns-4 : tie.Need-returns-4
 unfolding Says
 returns-4 c o run e =
-    let own = c .before .before in
-    let t = own .before .before in
+    let t = c .before .before .before .before in
     subst (Says _ _ _ run _) (sym (t .what2 .given .1))
-    (refused-at 3 _ (within (t .before .before) o, (refl, (own .if3 .left, omega arith))))
+    (refused-at 3 _ (within (t .before .before) o, (refl, omega arith)))
 
 returns-5 : tie.Need-returns-5
 unfolding Says
 returns-5 c o run e =
-    let own = c .before .before .before in
-    let t = own .before .before in
+    let t = c .before .before .before .before .before in
     let long = counted run (t .what2 .given .1) e in
     subst (Says _ _ _ run _) (sym (t .what2 .given .1))
-    (refused-at 4 _ (within (t .before .before) o, (refl, (own .if3 .left, omega arith))))
+    (refused-at 4 _ (within (t .before .before) o, (refl, omega arith)))
 
 returns-6 : tie.Need-returns-6
 unfolding Says
 returns-6 c o run e =
-    let own = c .before .before .before .before in
-    let t = own .before .before in
+    let t = c .before .before .before .before .before .before in
+    let w = t .before .before in
+    let p = w .before .before .args in
     let long = counted run (t .what2 .given .1) e in
-    subst (Says _ _ _ run _) (sym (t .what2 .given .1))
-    (refused-at 5 _ (within (t .before .before) o, (refl, (own .if3 .left, omega arith))))
+    subst (Says (with-numbers o w) (p .sound) (p .reply) run _) (sym (t .what2 .given .1))
+    (refused-at 5 _ (within w o, (refl, omega arith)))
 
 -- what tells neither of an opening nor of a block
 other : (run : List ℕ) (t : Told) → OneOf (0 ∷ 3 ∷ 4 ∷ []) (tagOf the-type t) → forReceiver (heardAs run t) ≡ false

@@ -58,7 +58,7 @@ returns c = (
       let t = c .before .before in
       let r = with-numbers o (t .before .before) in
       so r (step (r .session) (r .length) (r .count) false 3 (r .session) 2) run lent (t .what .given .1)
-      (rw (eq-eqb (t .what .given .0 .0) (r .session) (c .if1 .taken))) (still r run lent),
+      (rw (eq-eqb (t .what .given .0 .0) (r .session) (omega arith))) (still r run lent),
 )
 
 returns-2 : tie.Need-returns-2
@@ -70,7 +70,7 @@ returns-2 c = (
       let r = with-numbers o (t .before .before) in
       let got = t .what .given .0 in
       so r (step (r .session) (r .length) (r .count) false 4 (got .0) 0) run lent (t .what .given .1)
-      (rw (ne-eqb (got .0) (r .session) (c .before .if1 .left), lt-ltb (length lent) (got .1 .0) (omega arith)))
+      (rw (ne-eqb (got .0) (r .session) (omega arith), lt-ltb (length lent) (got .1 .0) (omega arith)))
       (refl, refl, sym (short-too-long (got .0) (r .count))),
 )
 
@@ -83,7 +83,7 @@ returns-4 c = (
       let r = with-numbers o (t .before .before) in
       let got = t .what .given .0 in
       so r (step (got .0) (got .1 .0) 0 false 3 (got .0) 2) run lent (t .what .given .1)
-      (rw (ne-eqb (got .0) (r .session) (c .before .if1 .left), le-ltb (length lent) (got .1 .0) (omega arith)))
+      (rw (ne-eqb (got .0) (r .session) (omega arith), le-ltb (length lent) (got .1 .0) (omega arith)))
       (refl, refl, sym (short-holds (got .0) 0)),
 )
 

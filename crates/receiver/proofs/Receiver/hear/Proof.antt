@@ -12,7 +12,8 @@ use Rattle.refusals.proofs.Faults.{right-both}
 use Rattle.trivium.specs.Keystream.{trivium}
 use Rattle.blocks.specs.{Blocks.place, Covering.covered}
 use Rattle.frames.specs.Told.{told, heardAs}
-use Rattle.frames.proofs.{FramesRead.told-back, FramesRead.told-again, FramesWritten.length-short}
+use Rattle.frames.proofs.{FramesRead.told-back, FramesRead.told-again, FramesWritten.with-number}
+use Rattle.frames.proofs.FramesWritten.{short, length-short}
 use Rattle.receiver.specs.Receiver.{contentFaults, receiveFaults}
 use Rattle.receiver.proofs.Receivers.{none-broken, refused-so, received-so}
 use Rattle.receiver.proofs.Receiver.hear.Statement.{statement}
@@ -87,7 +88,10 @@ returns-2 c =
     received-so trivium (p .self) (p .sound .now) (p .answer .now) (p .frame .now) (heardAs run t)
     (told-back (message r) (r .read .ensures)) all (sym (says .0)) (sym (ap length (says .2) ∙ long))
     (after (c .before) ∙ sym (says .1))
-    (written .write-short .ensures ∙ put-placed _ 0 _ (omega arith) ∙ ap (placed (p .answer .now) 0) (sym (says .2)))
+    (with-number (λ (held : ℕ). put (p .answer .now) 0 (short (n .kind) (n .named) (n .width) held)) (n .count)
+    (written .write-short .ensures) (omega arith)
+    ∙ put-placed _ 0 _ (omega arith)
+    ∙ ap (placed (p .answer .now) 0) (sym (says .2)))
 
 pub hear-spec : {M : Type 1} → statement M
 hear-spec =

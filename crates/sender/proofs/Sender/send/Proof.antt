@@ -11,9 +11,10 @@ use Rattle.refusals.specs.Numbers.{accepted, noRoom, noTransfer, wrongSound, ou
 use Rattle.refusals.specs.Rules.{AllRight, first}
 use Rattle.refusals.proofs.{Faults.none-wrong, Settled.settled-left}
 use Rattle.trivium.specs.Keystream.{trivium}
-use Rattle.frames.proofs.FramesWritten.{short-opening}
-use Rattle.sender.specs.{declared.Phase.Phase, declared.Phase.the-variants.Sending}
-use Rattle.sender.specs.Sender.{dueIn, sendFaults, sending}
+use Rattle.frames.specs.Frames.{bytes}
+use Rattle.frames.proofs.FramesWritten.{with-number, short, short-opening}
+use Rattle.sender.specs.declared.Phase.{Phase}
+use Rattle.sender.specs.Sender.{newCount, blockFrame, dueIn, sendFaults, sending}
 use Rattle.sender.proofs.Senders.{opening-if, sending-if, news-below, sent-so}
 use Rattle.sender.proofs.Sender.send.Statement.{statement}
 use Rattle.sender.proofs.Sender.send.Tie as tie
@@ -67,7 +68,8 @@ returns-2 c =
     let all = right (none .before) in
     let phase = opening-if (s .phase) (all .1 .0) (sym (stage .stage .ensures .2) ∙ none .if2 .taken) in
     sent-so trivium s (p .sound .now) (p .frame .now) all (stage .stage .ensures .3 (p .sound .now) (all .1 .1 .0))
-    (call .write-short .ensures
+    (with-number (λ (n : ℕ). put (p .frame .now) 0 (short 1 (s .session) 4 n)) (s .length) (call .write-short .ensures)
+    (omega arith)
     ∙ ap (put (p .frame .now) 0)
     (short-opening (s .session) (s .length) ∙ ap (dueIn trivium s (p .sound .now)) (sym phase)))
 
@@ -80,12 +82,10 @@ returns-3 c =
     let p = stage .before .before .before .args in
     let s = p .self in
     let all = right (other .before) in
-    let news = stage .stage .ensures .2 in
-    let k : ℕ = stage .stage .result .«new_count» - 1 in
-    let phase : s .phase ≡ Sending k =
-    sending-if (s .phase) (all .1 .0) (omega arith) ∙ ap (λ (n : ℕ). Sending (n - 1)) (sym news) in
+    let phase = sending-if (s .phase) (all .1 .0) (omega (arith, stage .stage .ensures .2)) in
     sent-so trivium s (p .sound .now) (p .frame .now) all (stage .stage .ensures .3 (p .sound .now) (all .1 .1 .0))
-    (call .write-block .ensures
+    (with-number (λ (n : ℕ). put (p .frame .now) 0 (bytes (blockFrame trivium s (p .sound .now) n)))
+    (newCount (s .phase) - 1) (call .write-block .ensures) (omega (arith, stage .stage .ensures .2))
     ∙ ap (λ (p′ : Phase). put (p .frame .now) 0 (dueIn trivium s (p .sound .now) p′)) (sym phase))
 
 pub send-spec : {M : Type 1} → statement M

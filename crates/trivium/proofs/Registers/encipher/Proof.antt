@@ -13,12 +13,14 @@ use Rattle.trivium.proofs.{Steps.skip-from, Registers.encipher.Statemen
 use Rattle.trivium.proofs.Registers.encipher.Tie as tie
 
 abbrev Inv-loop : tie.InvT-loop
-Inv-loop input output₀ n registers₀ at₀ output registers at =
-    (at ≤ n) × (length output ≡ length output₀) × (skipping registers (n - at) ≡ skipping registers₀ n)
-    × (partEnciphered registers input output at (n - at) ≡ partEnciphered registers₀ input output₀ 0 n)
+Inv-loop input output₀ n running₀ at₀ output running at =
+    let from = running₀ .registers in
+    let registers = running .registers in
+    (at ≤ n) × (length output ≡ length output₀) × (skipping registers (n - at) ≡ skipping from n)
+    × (partEnciphered registers input output at (n - at) ≡ partEnciphered from input output₀ 0 n)
 
 abbrev μ-loop : tie.MeasureT-loop
-μ-loop input output₀ n registers₀ at₀ output registers at = n - at
+μ-loop input output₀ n running₀ at₀ output running at = n - at
 
 returns : tie.Need-returns Inv-loop μ-loop
 unfolding enciphering
@@ -36,30 +38,32 @@ loop-again c =
     let m = c .before .before in
     let call = m .encipher-sixteen in
     let l = m .before .before .before .loop in
+    let old = l .running .registers in
+    let new = call .result .registers in
     let p = m .before .before .before .before .before .before .before .args in
     let rest : ℕ = length (p .input .now) - (l .at + 16) in
     let all : 16 + rest ≡ length (p .input .now) - l .at = omega arith in (
       omega arith,
       call .kept .1 .1 .0 ∙ l .inv .1,
-      skip-from (l .registers) (call .result) 16 rest (call .ensures .0) ∙ ap (skipping (l .registers)) all ∙ l .inv .2,
-      two-calls (state (l .registers)) (state (call .result)) (p .input .now) (l .output) (call .last .1 .1 .0) (l .at)
+      skip-from old new 16 rest (call .ensures .0) ∙ ap (skipping old) all ∙ l .inv .2,
+      two-calls (state old) (state new) (p .input .now) (l .output) (call .last .1 .1 .0) (l .at)
           16 rest (omega arith) (omega arith) (call .ensures .0) (call .ensures .1)
-          ∙ ap (partEnciphered (l .registers) (p .input .now) (l .output) (l .at)) all
+          ∙ ap (partEnciphered old (p .input .now) (l .output) (l .at)) all
           ∙ l .inv .3,
     )
 
 same-length : tie.Need-same-length Inv-loop μ-loop
 same-length c =
     let m = c .before .before in
-    m .encipher-rest .kept .1 .1 .0 ∙ m .before .before .before .loop .inv .1
+    m .encipher-rest .kept .1 .1 .0 ∙ m .before .before .before .before .loop .inv .1
 
 returns-2 : tie.Need-returns-2 Inv-loop μ-loop
 unfolding enciphering
 returns-2 c =
     let m = c .before .before in
     let call = m .encipher-rest in
-    let inv = m .before .before .before .loop .inv in
-    let p = m .before .before .before .before .before .before .before .args in
+    let inv = m .before .before .before .before .loop .inv in
+    let p = m .before .before .before .before .before .before .before .before .args in
     let all = take-all (length (p .input .now)) (p .input .now) (omega arith) in
     let next = call .ensures .0 ∙ inv .2 in
     let last =

@@ -1,12 +1,12 @@
--- `trivium::Registers::encipher_sixteen` meets its contract: the second stride's eight bytes follow the first's.
+-- `trivium::Running::encipher_sixteen` meets its contract: the second stride's eight bytes follow the first's.
 use mathlib.Core.Path.{sym, ap, _∙_}
 use native.Mathlib.Omega.{arith}
 use borrow.Author.Needs.{needs}
 use Rattle.taps.specs.Registers.{steps}
 use Rattle.taps.proofs.{Bytes.two-covers, Steps.steps-add}
 use Rattle.trivium.specs.{Record.state, declared.Running.Running}
-use Rattle.trivium.proofs.{Steps.ran-word, Steps.ran-state, Registers.encipher_sixteen.Statement.statement}
-use Rattle.trivium.proofs.Registers.encipher_sixteen.Tie as tie
+use Rattle.trivium.proofs.{Steps.ran-word, Steps.ran-state, Running.encipher_sixteen.Statement.statement}
+use Rattle.trivium.proofs.Running.encipher_sixteen.Tie as tie
 
 returns : tie.Need-returns
 returns c =
@@ -15,14 +15,14 @@ returns c =
     let first = two .before .before .before in
     let one = first .before .before in
     let p = one .before .before .before .args in
-    let begun : Running = record { registers = p .self } in
+    let begun : Running = p .self in
     let onward : Running = one .stride .result .next in
     let reached = ran-state begun (one .stride .result) (one .stride .ensures) in (
       ran-state onward (two .stride2 .result) (two .stride2 .ensures)
           ∙ ap (steps 64) reached
-          ∙ sym (steps-add 64 64 (state (p .self))),
+          ∙ sym (steps-add 64 64 (state (begun .registers))),
       second .cover2 .ensures
-          ∙ two-covers (state (p .self)) (state (onward .registers)) (p .input .now) (p .output .now)
+          ∙ two-covers (state (begun .registers)) (state (onward .registers)) (p .input .now) (p .output .now)
           (first .cover .last .1 .0) (p .at) 8 8 _ _ (omega arith) (omega arith)
           (λ i. omega (arith, one .before .before .shared-slice-known .given i)) (omega arith) (omega arith) reached
           (ran-word begun _ (one .stride .ensures)) (first .cover .ensures) (ran-word onward _ (two .stride2 .ensures)),

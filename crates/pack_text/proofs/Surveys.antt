@@ -1,0 +1,46 @@
+-- The text by what a survey answers: both are settled by the pack's rules, once the keys are there.
+use mathlib.Core.{Path._≡_, Path.sym, Path.ap, Path._∙_, List.List, Logic._≢_}
+use Prim.Native.Nat.{ℕ, _≤_}
+use native.Mathlib.Omega.{arith}
+use lib.ListN.{length, drop}
+use Rattle.octets.specs.{Buffers.slice, Stream.Cipher}
+use Rattle.refusals.specs.{Numbers.accepted, Rules.first}
+use Rattle.refusals.proofs.{Faults.rule-passes, Settled.settled-done, Settled.settled-left}
+use Rattle.pack.specs.{Calls.acceptedOpening, Calls.surveying, Faults.fileFaults, declared.Opened.Opened}
+use Rattle.pack.proofs.Theorems.{file-right, survey-refusal}
+use Rattle.pack_text.specs.Text.{packLines, refusedLine, inputFaults, textOf}
+
+-- the lines about what was found in a file
+abbrev pub linesOf : List ℕ → Opened → List ℕ
+linesOf file o = packLines (slice file (o .«name_at») (o .«name_length»)) (o .key) (o .samples) (o .loops)
+
+module _ (cipher : Cipher) (input : List ℕ) {o : Opened} (keys : 40 ≤ length input)
+    (e : o ≡ surveying cipher (drop 40 input)) where
+  abbrev file : List ℕ
+  file = drop 40 input
+
+  found : o .refusal ≡ first (fileFaults cipher file)
+  found = ap (λ (a : Opened). a .refusal) e ∙ survey-refusal cipher file
+
+  number : o .refusal ≡ first (inputFaults cipher input)
+  number = found ∙ rule-passes _ (fileFaults cipher file) keys
+
+  done : o .refusal ≡ accepted → o ≡ acceptedOpening cipher file
+  unfolding surveying
+  done z = e ∙ sym (settled-done _ _ _ (sym z ∙ found))
+
+  -- a name that was found has at most 32 bytes
+  pub name-short : o .refusal ≡ accepted → o .«name_length» ≤ 32
+  unfolding fileFaults
+  name-short z =
+      let right = file-right cipher file (sym found ∙ z) in
+      omega (arith, ap (λ (a : Opened). a .«name_length») (done z))
+
+  pub told-accepted : o .refusal ≡ accepted → linesOf file o ≡ textOf cipher input
+  unfolding textOf
+  told-accepted z =
+      ap (linesOf file) (done z) ∙ settled-done (inputFaults cipher input) _ refusedLine (sym z ∙ number)
+
+  pub told-refused : o .refusal ≢ accepted → refusedLine (o .refusal) ≡ textOf cipher input
+  unfolding textOf
+  told-refused h = settled-left (inputFaults cipher input) _ refusedLine (o .refusal) h number

@@ -1,0 +1,80 @@
+-- `pack_text::write_text` meets its contract: the keys' length decides, then the survey, and the lines say it.
+use mathlib.Core.{Path._≡_, Path.ap, Path._∙_, List.List}
+use Prim.Native.Nat.{ℕ, _-_, _≤_}
+use native.Mathlib.Omega.{arith}
+use borrow.Author.Needs.{needs}
+use lib.{ListN.length, ListN.drop, ListN.length-drop, ListN.length-take, Seq.take-all}
+use Rattle.octets.specs.Buffers.{slice}
+use Rattle.refusals.proofs.Settled.{left-at}
+use Rattle.trivium.specs.Keystream.{trivium}
+use Rattle.pack.specs.{Calls.surveying, declared.Opened.Opened}
+use Rattle.pack_text.specs.Text.{packLines, refusedLine, inputFaults, textOf, writing}
+use Rattle.pack_text.proofs.{Lines.text-first, write_text.Statement.statement}
+use Rattle.pack_text.proofs.Surveys.{linesOf, name-short, told-accepted, told-refused}
+use Rattle.pack_text.proofs.write_text.Tie as tie
+
+-- all that stands behind the keys
+behind : (input : List ℕ) → slice input 40 (length input - 40) ≡ drop 40 input
+behind input = take-all (length input - 40) (drop 40 input) (simp length-drop (omega arith))
+
+module _ (c : tie.After-survey) where
+  abbrev start : tie.Start
+  start = c .before .before .before .before .before
+
+  abbrev input : List ℕ
+  input = start .args .input .now
+
+  abbrev d : List ℕ
+  d = start .args .d .now
+
+  long : 40 ≤ length input
+  long = c .before .before .if1 .left
+
+  answered : c .survey .result ≡ surveying trivium (drop 40 input)
+  answered = c .survey .ensures ∙ ap (surveying trivium) (behind input)
+
+returns : tie.Need-returns
+unfolding textOf refusedLine
+returns c =
+    let w = c .before .before in
+    let p = w .before .before .before .before .before .before .args in
+    w .write-line .ensures ∙ text-first (p .d .now) (refusedLine 1)
+    ∙ ap (λ (t : List ℕ). writing t (p .d .now))
+    (left-at (inputFaults trivium (p .input .now)) _ refusedLine 0 tt (w .before .before .before .if1 .taken))
+
+returns-2 : tie.Need-returns-2
+unfolding refusedLine
+returns-2 c =
+    let w = c .before .before in
+    let e = w .before .before .before in
+    let s = e .before in
+    w .write-line2 .ensures ∙ text-first (d s) (refusedLine (s .survey .result .refusal))
+    ∙ ap (λ (t : List ℕ). writing t (d s)) (told-refused trivium (input s) (long s) (answered s) (e .if2 .taken))
+
+write-pack-requires : tie.Need-write-pack-requires
+write-pack-requires c κs =
+    let e = c .before .before in
+    let s = e .before in
+    let few = name-short trivium (input s) (long s) (answered s) (e .if2 .left) in
+    let part = ap length (c .before .slice .ensures) ∙ length-take (s .survey .result .«name_length») _ in
+    (omega arith, omega arith)
+
+returns-3 : tie.Need-returns-3
+returns-3 c =
+    let w = c .before .before in
+    let e = w .before .before .before in
+    let s = e .before in
+    let o : Opened = s .survey .result in
+    w .write-pack .ensures
+    ∙ ap (λ (t : List ℕ). writing t (d s))
+    (ap (λ (name : List ℕ). packLines name (o .key) (o .samples) (o .loops)) (w .before .before .slice .ensures)
+    ∙ ap (λ (f : List ℕ). linesOf f o) (behind (input s))
+    ∙ told-accepted trivium (input s) (long s) (answered s) (e .if2 .left))
+
+pub write-text-spec : {M : Type 1} → statement M
+write-text-spec =
+    tie.close
+    (tie.spec (λ c. search needs) (λ c. search needs) (λ c κs. search needs) (λ c. search needs) returns
+    (λ c. search needs) (λ c. search needs) (λ c. search needs) (λ c κs. search needs) (λ c. search needs)
+    (λ c. search needs) (λ c κs. search needs) (λ c. search needs) returns-2 (λ c κs. search needs)
+    write-pack-requires (λ c. search needs) returns-3)

@@ -1,0 +1,65 @@
+-- What the reading program prints of its input, 40 bytes of keys and then a pack: lines of ASCII codes.
+use Prim.Native.Nat.{ℕ, zero, suc, _+_}
+use mathlib.Core.List.{List, [], _∷_, _++_, map}
+use lib.ListN.{length, drop}
+use Rattle.octets.specs.{Buffers.slice, Buffers.put, Digits.digits, Stream.Cipher}
+use Rattle.refusals.specs.{Numbers.badKey, Outcome.Outcome, Outcome.outcome}
+use Rattle.refusals.specs.Rules.{_under_, Fault, _says_, settled}
+use Rattle.pack.specs.{Faults.fileFaults, Places.nameCount, Places.keyNumber, Places.sampleCount, Places.loopCount}
+use Rattle.pack.specs.Ring.{ringBytes}
+
+-- digits without the zeros at their front, as long as one is left
+unfoldable pub trimmed : List ℕ → List ℕ
+trimmed [] = []
+trimmed (d ∷ []) = d ∷ []
+trimmed (zero ∷ e ∷ ds) = trimmed (e ∷ ds)
+trimmed (suc d ∷ e ∷ ds) = suc d ∷ e ∷ ds
+
+-- a number in decimal, `0` being 48: no word has more than twenty digits
+unfoldable pub decimal : ℕ → List ℕ
+decimal x = map (λ d. 48 + d) (trimmed (digits 10 20 x))
+
+-- a word, what it is about, and the line's end
+abbrev pub line : List ℕ → List ℕ → List ℕ
+line word about = word ++ about ++ (10 ∷ [])
+
+-- the words, each with its space
+abbrev pub nameWord : List ℕ
+nameWord = 110 ∷ 97 ∷ 109 ∷ 101 ∷ 32 ∷ []
+
+abbrev pub keyWord : List ℕ
+keyWord = 107 ∷ 101 ∷ 121 ∷ 32 ∷ []
+
+abbrev pub samplesWord : List ℕ
+samplesWord = 115 ∷ 97 ∷ 109 ∷ 112 ∷ 108 ∷ 101 ∷ 115 ∷ 32 ∷ []
+
+abbrev pub loopsWord : List ℕ
+loopsWord = 108 ∷ 111 ∷ 111 ∷ 112 ∷ 115 ∷ 32 ∷ []
+
+abbrev pub refusedWord : List ℕ
+refusedWord = 114 ∷ 101 ∷ 102 ∷ 117 ∷ 115 ∷ 101 ∷ 100 ∷ 32 ∷ []
+
+-- an accepted pack: its name, and three numbers
+unfoldable pub packLines : List ℕ → ℕ → ℕ → ℕ → List ℕ
+packLines name key samples loops =
+    line nameWord name ++ line keyWord (decimal key) ++ line samplesWord (decimal samples)
+    ++ line loopsWord (decimal loops)
+
+-- a refusal: its number
+unfoldable pub refusedLine : ℕ → List ℕ
+refusedLine number = line refusedWord (decimal number)
+
+-- the keys have to be all there, and then the pack decides
+abbrev pub inputFaults : Cipher → List ℕ → List Fault
+inputFaults cipher input = (length input under ringBytes says badKey) ∷ fileFaults cipher (drop ringBytes input)
+
+unfoldable pub textOf : Cipher → List ℕ → List ℕ
+textOf cipher input =
+    let file = drop ringBytes input in
+    settled (inputFaults cipher input)
+    (packLines (slice file 1 (nameCount file)) (keyNumber file) (sampleCount cipher file) (loopCount cipher file))
+    refusedLine
+
+-- the text's length, room or not, and the text at the buffer's front if it has room there
+abbrev pub writing : List ℕ → List ℕ → Outcome ℕ ℕ
+writing text buffer = outcome (length text) (put buffer 0 text)

@@ -1,0 +1,37 @@
+-- `trivium::Running::stop` meets its contract: a remainder of an upper word is what its register has there.
+use mathlib.Core.Path.{_≡_, sym, ap, _∙_}
+use Prim.Native.Nat.{ℕ, _+_, _*_, _/_, _%_, _^_, _<_}
+use native.Mathlib.Omega.{arith}
+use lib.Pow.{field, mod-mod-pow, high, low}
+use Rattle.taps.specs.Words.{joined}
+use Rattle.trivium.specs.{Calls.stopping, Record.state, Record.packed}
+use Rattle.trivium.proofs.Running.stop.Statement.{statement}
+use Rattle.trivium.proofs.Running.stop.Tie as tie
+
+-- p bits of a register in its upper word
+upper-kept : (p upper lower : ℕ) → lower < 2 ^ 64 → upper % 2 ^ p ≡ joined (p + 64) upper lower / 2 ^ 64
+upper-kept p upper lower h =
+    sym (field (upper * 2 ^ 64 + lower) p 64 ∙ ap (λ (v : ℕ). v % 2 ^ p) (high upper 64 h))
+
+lower-kept : (p upper lower : ℕ) → lower < 2 ^ 64 → lower ≡ joined (p + 64) upper lower % 2 ^ 64
+lower-kept p upper lower h = sym (mod-mod-pow (upper * 2 ^ 64 + lower) p 64 ∙ low upper 64 h)
+
+returns : tie.Need-returns
+unfolding stopping state packed
+returns c =
+    let r = c .before .args .self .registers in
+    let a0 : r .a0 < 2 ^ 64 = omega arith in
+    let b0 : r .b0 < 2 ^ 64 = omega arith in
+    let c0 : r .c0 < 2 ^ 64 = omega arith in
+    λ i.
+    record {
+      a1 = upper-kept 29 (r .a1) (r .a0) a0 i;
+      a0 = lower-kept 29 (r .a1) (r .a0) a0 i;
+      b1 = upper-kept 20 (r .b1) (r .b0) b0 i;
+      b0 = lower-kept 20 (r .b1) (r .b0) b0 i;
+      c1 = upper-kept 47 (r .c1) (r .c0) c0 i;
+      c0 = lower-kept 47 (r .c1) (r .c0) c0 i;
+    }
+
+pub stop-spec : {M : Type 1} → statement M
+stop-spec = tie.close (tie.spec returns)
