@@ -58,11 +58,17 @@ struct Stage {
 
 const LAST_SESSION: u32 = 4294967295;
 
-// The number of the first broken rule of a call that asks for a transfer under way and has two rules more, or 0.
-// `third` and `fourth` say whether those are broken, and `c` and `d` are their numbers.
-fn transfer_fault(stage: Stage, third: bool, c: u8, fourth: bool, d: u8) -> u8
+// A rule of a call that was looked at already: whether it is broken, and the number for no if it is.
+struct Verdict {
+    broken: bool,
+    number: u8,
+}
+
+// The number of the first broken rule of a call that asks for a transfer under way and then has two rules of its own,
+// or 0.
+fn transfer_fault(stage: Stage, own: Verdict, last: Verdict) -> u8
     ensures { λ r. ⌜ r ≡ cond (not (stage .«in_rule»)) outOfRule (cond (not (stage .«under_way»)) noTransfer
-        (cond third c (cond fourth d accepted))) ⌝ }
+        (cond (own .broken) (own .number) (cond (last .broken) (last .number) accepted))) ⌝ }
 {
     let in_rule = stage.in_rule;
     if !in_rule {
@@ -72,11 +78,13 @@ fn transfer_fault(stage: Stage, third: bool, c: u8, fourth: bool, d: u8) -> u8
     if !under_way {
         return refusals::NO_TRANSFER;
     }
-    if third {
-        return c;
+    let own_broken = own.broken;
+    if own_broken {
+        return own.number;
     }
-    if fourth {
-        return d;
+    let last_broken = last.broken;
+    if last_broken {
+        return last.number;
     }
     refusals::ACCEPTED
 }
@@ -186,10 +194,14 @@ impl Sender {
         let stage = self.stage();
         let refusal = transfer_fault(
             stage,
-            sound.len() != self.length as usize,
-            refusals::WRONG_SOUND,
-            frame.len() < stage.due,
-            refusals::NO_ROOM,
+            Verdict {
+                broken: sound.len() != self.length as usize,
+                number: refusals::WRONG_SOUND,
+            },
+            Verdict {
+                broken: frame.len() < stage.due,
+                number: refusals::NO_ROOM,
+            },
         );
         if refusal != refusals::ACCEPTED {
             return Sent {
@@ -223,17 +235,25 @@ impl Sender {
         match what {
             Told::Holds(session, held) => transfer_fault(
                 stage,
-                session != self.session,
-                refusals::OTHER_SESSION,
-                stage.new_count < held as u32,
-                refusals::IMPOSSIBLE,
+                Verdict {
+                    broken: session != self.session,
+                    number: refusals::OTHER_SESSION,
+                },
+                Verdict {
+                    broken: stage.new_count < held as u32,
+                    number: refusals::IMPOSSIBLE,
+                },
             ),
             Told::TooLong(named) => transfer_fault(
                 stage,
-                named != self.session,
-                refusals::OTHER_SESSION,
-                0 < stage.new_count,
-                refusals::IMPOSSIBLE,
+                Verdict {
+                    broken: named != self.session,
+                    number: refusals::OTHER_SESSION,
+                },
+                Verdict {
+                    broken: 0 < stage.new_count,
+                    number: refusals::IMPOSSIBLE,
+                },
             ),
             _ => {
                 let in_rule = stage.in_rule;
