@@ -16,7 +16,8 @@ use Rattle.trivium.specs.Keystream.{trivium}
 use Rattle.pack.specs.Faults.{faultsFromSamples, faultsFromKey, fileFaults, openFaults}
 use Rattle.pack.specs.{Places.sampleCount, Ring.ringBytes}
 use Rattle.pack.proofs.Theorems.{file-numbered}
-use Rattle.pack_bytes.specs.Calls.{numbersRoom, packOpenFaults}
+use Rattle.survey_bytes.specs.Calls.{numbersRoom}
+use Rattle.pack_bytes.specs.Calls.{packOpenFaults}
 
 -- no rule of opening has the number of a call that isn't refused
 numbered-open : (file : List ℕ) (room : ℕ) → T (numbered (openFaults trivium file room))

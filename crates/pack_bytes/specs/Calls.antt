@@ -7,17 +7,11 @@ use Rattle.refusals.specs.Numbers.{accepted, badKey, noRoom}
 use Rattle.refusals.specs.Rules.{_under_, _unlike_, Fault, _says_, settled}
 use Rattle.trivium.specs.Keystream.{trivium}
 use Rattle.pack.specs.{Calls.acceptedOpening, Faults.openFaults, Faults.sealFaults, Layout.Parts, Layout.layout}
-use Rattle.pack.specs.{Places.partsOf, Ring.ringBytes, Ring.ringOf, declared.Opened.Opened}
+use Rattle.pack.specs.{Places.partsOf, Ring.ringBytes, Ring.ringOf}
 use Rattle.record_bytes.specs.Written.{Written, wrote}
+use Rattle.survey_bytes.specs.Calls.{answerNumbers, numbersRoom}
 
 -- ---- opening
-
--- the answer's numbers, in the header's order
-abbrev pub answerNumbers : Opened → List ℕ
-answerNumbers o = o .samples ∷ o .key ∷ o .loops ∷ o .«name_length» ∷ o .«name_at» ∷ o .«value_at» ∷ o .«loops_at» ∷ []
-
-abbrev pub numbersRoom : ℕ
-numbersRoom = 7
 
 -- the number, the samples and the seven numbers
 pub record PackOpened : Type 0 where

@@ -1,14 +1,11 @@
 // Packs for callers in other languages, who lend the ring of keys as bytes. A refused call writes nothing of all that
 // it was lent.
-use pack::Opened;
 ghost use mathlib.Core.Path.{_≡_};
-ghost use mathlib.Core.List.{[], _∷_};
 ghost use lib.ListN.{length};
-ghost use Rattle.octets.specs.Buffers.{put};
 ghost use Rattle.pack.specs.Layout.{parts};
 ghost use Rattle.pack.specs.Ring.{ringBytes, ringOf};
 ghost use Rattle.record_bytes.specs.Written.{wrote};
-ghost use Rattle.pack_bytes.specs.Calls.{answerNumbers, packOpened, packOpen, packSeal};
+ghost use Rattle.pack_bytes.specs.Calls.{packOpened, packOpen, packSeal};
 
 // The ring that its bytes are. An array's length is known where it is lent as an array.
 fn ring_in(bytes: &[u8]) -> [[u8; 10]; 4]
@@ -20,32 +17,6 @@ fn ring_in(bytes: &[u8]) -> [[u8; 10]; 4]
     pack::ring_of(&own)
 }
 
-// How many numbers tell what was opened.
-const OPENED_NUMBERS: usize = 7;
-
-// Writes what was opened to the front of a run, if it has room there.
-fn tell(answer: &mut [usize], opened: Opened)
-    ensures { λ _. ⌜ now (answer .exit) ≡ put (now (answer .entry)) 0 (answerNumbers opened) ⌝ }
-{
-    if answer.len() < OPENED_NUMBERS {
-        return;
-    }
-    let samples = opened.samples;
-    let key = opened.key;
-    let loops = opened.loops;
-    let name_length = opened.name_length;
-    let name_at = opened.name_at;
-    let value_at = opened.value_at;
-    let loops_at = opened.loops_at;
-    answer[0] = samples;
-    answer[1] = key as usize;
-    answer[2] = loops;
-    answer[3] = name_length;
-    answer[4] = name_at;
-    answer[5] = value_at;
-    answer[6] = loops_at;
-}
-
 pub fn open(file: &[u8], ring: &[u8], samples: &mut [i16], answer: &mut [usize]) -> u8
     ensures { λ r. ⌜ packOpened (now (samples .exit)) (now (answer .exit)) r
         ≡ packOpen (now (file .entry)) (now (ring .entry)) (now (samples .entry)) (now (answer .entry)) ⌝ }
@@ -53,7 +24,7 @@ pub fn open(file: &[u8], ring: &[u8], samples: &mut [i16], answer: &mut [usize])
     if ring.len() != pack::RING_BYTES {
         return refusals::BAD_KEY;
     }
-    if answer.len() < OPENED_NUMBERS {
+    if answer.len() < survey_bytes::NUMBERS {
         let told = opener::survey(file);
         let fault = told.refusal;
         if fault != refusals::ACCEPTED {
@@ -66,7 +37,7 @@ pub fn open(file: &[u8], ring: &[u8], samples: &mut [i16], answer: &mut [usize])
     if refusal != refusals::ACCEPTED {
         return refusal;
     }
-    tell(answer, opened);
+    survey_bytes::tell(answer, opened);
     refusals::ACCEPTED
 }
 

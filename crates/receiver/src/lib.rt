@@ -186,6 +186,13 @@ impl Receiver {
         }
     }
 
+    // Whether the record is in rule.
+    pub fn in_rule(self) -> bool
+        ensures { λ r. ⌜ r ≡ receiverInRule self ⌝ }
+    {
+        in_rule(self.session, self.length, self.count)
+    }
+
     // Puts the sound of the block in turn to its place. A block's bytes begin at byte 8 of its frame.
     fn take(self, frame: &[u8], sound: &mut [u8])
         ensures { λ _. ⌜ now (sound .exit) ≡ put (now (sound .entry)) (place (self .count))

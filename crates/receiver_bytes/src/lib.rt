@@ -14,7 +14,7 @@ pub const RECEIVER_BYTES: usize = 26;
 const NO_LENGTH: u32 = 32769;
 
 // The receiver that the bytes are, or one that is out of rule.
-fn receiver_in(bytes: &[u8]) -> Receiver
+pub fn receiver_in(bytes: &[u8]) -> Receiver
     ensures { λ r. ⌜ r ≡ receiverIn (now (bytes .entry)) ⌝ }
 {
     if bytes.len() != RECEIVER_BYTES {

@@ -46,3 +46,17 @@ pub fn write_front(d: &mut [u8], front: Front)
     octet_writer::write_number(d, 16, 4, session as u64);
     octet_writer::write_number(d, 20, 4, length as u64);
 }
+
+// Numbers for a caller, at the front of a run, if they have room there.
+pub fn write_numbers(d: &mut [usize], numbers: &[usize])
+    ensures { λ _. ⌜ now (d .exit) ≡ put (now (d .entry)) 0 (now (numbers .entry)) ⌝ }
+{
+    if d.len() < numbers.len() {
+        return;
+    }
+    let mut i = 0;
+    while i < numbers.len() {
+        d[i] = numbers[i];
+        i += 1;
+    }
+}

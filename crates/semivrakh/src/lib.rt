@@ -5,9 +5,22 @@ ghost use Rattle.refusals.specs.Outcome.{outcome};
 ghost use Rattle.pack.specs.Layout.{parts};
 ghost use Rattle.record_bytes.specs.Written.{wrote};
 ghost use Rattle.cipher_bytes.specs.Calls.{cipherMake, ciphered, cipherEncipher};
+ghost use Rattle.survey_bytes.specs.Calls.{packSurvey, packLoops};
 ghost use Rattle.pack_bytes.specs.Calls.{packOpened, packOpen, packSeal};
 ghost use Rattle.sender_bytes.specs.Calls.{senderMake, senderBegin, senderSend, senderHear};
 ghost use Rattle.receiver_bytes.specs.Calls.{receiverMake, reception, receiverHear};
+ghost use Rattle.link_status.specs.Calls.{senderStatus, receiverStatus};
+ghost use Rattle.semivrakh.specs.Version.{version};
+
+// Ten thousand times the version's first number, a hundred times its second, and its third.
+const VERSION: u32 = 200;
+
+#[no_mangle]
+pub extern "C" fn semivrakh_version() -> u32
+    ensures { λ r. ⌜ r ≡ version ⌝ }
+{
+    VERSION
+}
 
 #[no_mangle]
 pub extern "C" fn semivrakh_cipher_make(cipher: &mut [u8], key: &[u8], value: &[u8]) -> u8
@@ -40,6 +53,21 @@ pub extern "C" fn semivrakh_pack_open(
         ≡ packOpen (now (file .entry)) (now (ring .entry)) (now (samples .entry)) (now (answer .entry)) ⌝ }
 {
     pack_bytes::open(file, ring, samples, answer)
+}
+
+#[no_mangle]
+pub extern "C" fn semivrakh_pack_survey(file: &[u8], answer: &mut [usize]) -> u8
+    ensures { λ r. ⌜ outcome r (now (answer .exit)) ≡ packSurvey (now (file .entry)) (now (answer .entry)) ⌝ }
+{
+    survey_bytes::survey(file, answer)
+}
+
+#[no_mangle]
+pub extern "C" fn semivrakh_pack_loops(file: &[u8], loops: &mut [u32], written: &mut usize) -> u8
+    ensures { λ r. ⌜ wrote (now (loops .exit)) (now (written .exit)) r
+        ≡ packLoops (now (file .entry)) (now (loops .entry)) (now (written .entry)) ⌝ }
+{
+    survey_bytes::loops(file, loops, written)
 }
 
 #[no_mangle]
@@ -97,6 +125,13 @@ pub extern "C" fn semivrakh_sender_hear(sender: &mut [u8], frame: &[u8]) -> u8
 }
 
 #[no_mangle]
+pub extern "C" fn semivrakh_sender_status(sender: &[u8], answer: &mut [usize]) -> u8
+    ensures { λ r. ⌜ outcome r (now (answer .exit)) ≡ senderStatus (now (sender .entry)) (now (answer .entry)) ⌝ }
+{
+    link_status::sender_status(sender, answer)
+}
+
+#[no_mangle]
 pub extern "C" fn semivrakh_receiver_make(receiver: &mut [u8], key: &[u8], pair: &[u8]) -> u8
     ensures { λ r. ⌜ outcome r (now (receiver .exit))
         ≡ receiverMake (now (receiver .entry)) (now (key .entry)) (now (pair .entry)) ⌝ }
@@ -117,4 +152,11 @@ pub extern "C" fn semivrakh_receiver_hear(
         (now (written .entry)) ⌝ }
 {
     receiver_bytes::hear(receiver, frame, sound, answer, written)
+}
+
+#[no_mangle]
+pub extern "C" fn semivrakh_receiver_status(receiver: &[u8], answer: &mut [usize]) -> u8
+    ensures { λ r. ⌜ outcome r (now (answer .exit)) ≡ receiverStatus (now (receiver .entry)) (now (answer .entry)) ⌝ }
+{
+    link_status::receiver_status(receiver, answer)
 }

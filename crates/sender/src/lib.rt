@@ -147,6 +147,14 @@ impl Sender {
         }
     }
 
+    // Whether the record is in rule.
+    pub fn in_rule(self) -> bool
+        ensures { λ r. ⌜ r ≡ senderInRule self ⌝ }
+    {
+        let stage = self.stage();
+        stage.in_rule
+    }
+
     // Begins a transfer of this sound, of which only the length counts here.
     pub fn begin(self, sound: &[u8]) -> SenderAnswer
         ensures { λ r. ⌜ r ≡ beginning self (now (sound .entry)) ⌝ }

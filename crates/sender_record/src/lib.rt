@@ -14,12 +14,12 @@ pub const SENDER_BYTES: usize = 27;
 const NO_LENGTH: u32 = 32769;
 
 // A phase as two numbers: its own, and the count that it carries.
-struct PhaseNumbers {
-    number: u64,
-    known: u64,
+pub struct PhaseNumbers {
+    pub number: u64,
+    pub known: u64,
 }
 
-fn phase_numbers(phase: Phase) -> PhaseNumbers
+pub fn phase_numbers(phase: Phase) -> PhaseNumbers
     ensures { λ r. ⌜ (r .number ∷ r .known ∷ []) ≡ phaseNumbers phase ⌝ }
 {
     match phase {

@@ -11,7 +11,8 @@ use Rattle.refusals.proofs.Settled.{left-at, settled-left, settled-done, answer
 use Rattle.trivium.specs.Keystream.{trivium}
 use Rattle.pack.specs.{Calls.openingPack, Ring.ringOf, declared.Opened.Opened}
 use Rattle.pack.proofs.Theorems.{survey-refusal}
-use Rattle.pack_bytes.specs.Calls.{answerNumbers, packOpened, packOpen}
+use Rattle.survey_bytes.specs.Calls.{answerNumbers}
+use Rattle.pack_bytes.specs.Calls.{packOpened, packOpen}
 use Rattle.pack_bytes.proofs.Opening.{opening-refuses, opening-passes, file-refuses, file-passes}
 use Rattle.pack_bytes.proofs.open.Statement.{statement}
 use Rattle.pack_bytes.proofs.open.Tie as tie
