@@ -78,8 +78,10 @@ struct comparison compare(struct work first, struct work second)
     }
     qsort(one.samples, (size_t)count, sizeof one.samples[0], by_size);
     qsort(other.samples, (size_t)count, sizeof other.samples[0], by_size);
+    double least = one.samples[0] / (double)one.calls;
     return (struct comparison){
-        .ratio = one.samples[0] / (double)one.calls / (other.samples[0] / (double)other.calls),
+        .seconds = least,
+        .ratio = least / (other.samples[0] / (double)other.calls),
         .spread = larger(spread(&one, count), spread(&other, count)),
     };
 }

@@ -8,6 +8,7 @@ struct work {
 };
 
 struct comparison {
+    double seconds; /* the least time of the first for one call */
     double ratio;  /* the least time of the first for one call, over the least time of the second */
     double spread; /* how far the median lies above the least time, as their ratio: the larger of both sides' */
 };

@@ -15,6 +15,19 @@
  *   - No call keeps anything between two calls, allocates, or reads or writes anything but what it is lent. Calls on
  *     different records may run at the same time.
  *
+ * What isn't protected
+ *
+ *   - There is no tag. A flipped bit in a pack's samples, or in a block, opens as good, and a wrong key gives noise and
+ *     no refusal. Whoever must notice changes puts a tag around files and frames.
+ *   - Under one key an initial value is used once. Two packs that share both give away how their sounds differ.
+ *   - The link's initial value is the pair name and the session. Two pairs of ends made with one key and one pair name
+ *     give the keystream away: a pair name is unique under a key. Save a sender's record after each beginning, before
+ *     anything is sent; one set back to an older record would use a session again.
+ *   - Nothing is wiped: keys stay in the records, and on the stack after a call.
+ *
+ * docs/FORMATS.md has the pack file, the frames and the records byte by byte, docs/TRUST.md what is proved and what
+ * isn't, and semivrakh_words.h the numbers for no in words, with what to do about each.
+ *
  * Records
  *
  *   A cipher, a sender and a receiver are runs of bytes that the caller keeps. They may be stored, copied and sent;
@@ -23,11 +36,11 @@
  *   and refuses bytes that are no record, enciphering with 3 and the link's calls with 27.
  *
  *   Look at what making answers. A refused making leaves the buffer as it was, and what was in it may well be taken for
- *   a record: 48 zeros are a cipher, and its keystream is all zeros, so that it enciphers nothing.
+ *   a record.
  *
  *   Cipher, 48 bytes: the registers a (93 bits), b (84) and c (111), each in 16 bytes as one number, its newest bit the
  *   lowest. The bits above a register are ignored, and come back zero from a call that isn't refused; so every 48
- *   bytes are a cipher.
+ *   bytes are a cipher, 48 zeros too: their keystream is all zeros, and they encipher nothing.
  *
  *   Sender, 27 bytes:
  *      0  key, 10 bytes
@@ -64,6 +77,9 @@
 #ifdef __cplusplus
 extern "C" {
 #endif
+
+/* The version of this header, 0.2.0: ten thousand times its first number, a hundred times its second, and its third. */
+#define SEMIVRAKH_VERSION 200
 
 /* The numbers for no. */
 enum {
@@ -110,7 +126,7 @@ enum {
     SEMIVRAKH_ANSWER_MOST = 7    /* room for any answer of the receiver */
 };
 
-/* What semivrakh_pack_open answers, by index. Places are indices into the file. */
+/* What semivrakh_pack_open and semivrakh_pack_survey answer, by index. Places are indices into the file. */
 enum {
     SEMIVRAKH_OPENED_SAMPLES = 0,     /* sample count */
     SEMIVRAKH_OPENED_KEY = 1,         /* key number */
@@ -118,17 +134,38 @@ enum {
     SEMIVRAKH_OPENED_NAME_LENGTH = 3,
     SEMIVRAKH_OPENED_NAME_AT = 4,     /* where the name begins */
     SEMIVRAKH_OPENED_VALUE_AT = 5,    /* where the initial value begins */
-    SEMIVRAKH_OPENED_LOOPS_AT = 6,    /* where the loops begin: 8 bytes each, start and end */
+    SEMIVRAKH_OPENED_LOOPS_AT = 6,    /* where the loops begin: 8 bytes each, start and end, 4 bytes each, most
+                                         significant first; semivrakh_pack_loops reads them */
     SEMIVRAKH_OPENED_NUMBERS = 7
 };
 
-/* A sender's phase: byte SEMIVRAKH_SENDER_PHASE_AT of its record. */
+/* A sender's phase. */
 enum {
     SEMIVRAKH_IDLE = 0,
     SEMIVRAKH_OPENING = 1,
     SEMIVRAKH_SENDING = 2,
     SEMIVRAKH_DONE = 3,
     SEMIVRAKH_REFUSED_TOO_LONG = 4
+};
+
+/* What semivrakh_sender_status answers, by index. */
+enum {
+    SEMIVRAKH_SENDER_PHASE = 0,   /* SEMIVRAKH_IDLE to SEMIVRAKH_REFUSED_TOO_LONG */
+    SEMIVRAKH_SENDER_SESSION = 1, /* 0: none yet */
+    SEMIVRAKH_SENDER_LENGTH = 2,  /* bytes of the sound */
+    SEMIVRAKH_SENDER_KNOWN = 3,   /* how many blocks are known to be held: all of them once done */
+    SEMIVRAKH_SENDER_BLOCKS = 4,  /* how many blocks the sound has */
+    SEMIVRAKH_SENDER_NUMBERS = 5
+};
+
+/* What semivrakh_receiver_status answers, by index. */
+enum {
+    SEMIVRAKH_RECEIVER_SESSION = 0, /* 0: none yet */
+    SEMIVRAKH_RECEIVER_LENGTH = 1,  /* bytes of the sound */
+    SEMIVRAKH_RECEIVER_HELD = 2,    /* how many blocks are held */
+    SEMIVRAKH_RECEIVER_BLOCKS = 3,  /* how many blocks the sound has */
+    SEMIVRAKH_RECEIVER_WHOLE = 4,   /* 1 if there is a session and the whole sound is held, otherwise 0 */
+    SEMIVRAKH_RECEIVER_NUMBERS = 5
 };
 
 /* Where fields begin in the records. */
@@ -175,6 +212,23 @@ uint8_t semivrakh_pack_open(const uint8_t *file, size_t file_length,
                             size_t *answer, size_t answer_room);
 
 /*
+ * What a pack file says of itself: the seven numbers that semivrakh_pack_open would answer, given room for the samples.
+ * It takes no keys, so a caller can look at a file, allocate, and then open it.
+ * Refuses, in order: what the file has wrong from front to back (10 to 18), 19 (fewer than seven numbers lent).
+ */
+uint8_t semivrakh_pack_survey(const uint8_t *file, size_t file_length,
+                              size_t *answer, size_t answer_room);
+
+/*
+ * The loops of a pack file, starts and ends in turn, as semivrakh_pack_seal takes them. Writes them to the front of
+ * `loops` and how many numbers they are, twice the count of loops, to `*loop_numbers`. Lend 16 numbers, and any pack
+ * has room. Refuses, in order: what the file has wrong from front to back (10 to 18), 19 (too few numbers lent).
+ */
+uint8_t semivrakh_pack_loops(const uint8_t *file, size_t file_length,
+                             uint32_t *loops, size_t loop_room,
+                             size_t *loop_numbers);
+
+/*
  * Seals a sound as a pack file under the key of the ring that the key number names. `loops` are starts and ends in
  * turn, so `loop_numbers` is twice the count of loops. Writes the file to the front of `output` and its length to
  * `*file_length`. Lend 32,882 bytes, and any pack has room. Never use an initial value twice under one key.
@@ -200,11 +254,14 @@ uint8_t semivrakh_pack_seal(const uint8_t *name, size_t name_length,
  * The link, sender's end. A transfer goes
  *
  *     uint8_t frame[SEMIVRAKH_FRAME_MOST], answer[SEMIVRAKH_ANSWER_MOST];
- *     size_t length;
- *     semivrakh_sender_begin(sender, sizeof sender, sound, n);      made once, begun for each sound
- *     while (sender[SEMIVRAKH_SENDER_PHASE_AT] == SEMIVRAKH_OPENING ||
- *            sender[SEMIVRAKH_SENDER_PHASE_AT] == SEMIVRAKH_SENDING) {
- *         if (semivrakh_sender_send(sender, sizeof sender, sound, n, frame, sizeof frame, &length) != 0) break;
+ *     size_t length, status[SEMIVRAKH_SENDER_NUMBERS];
+ *     uint8_t no = semivrakh_sender_begin(sender, sizeof sender, sound, n);   made once, begun for each sound
+ *     if (no == 0) save(sender, sizeof sender);                               before anything is sent
+ *     for (int tries = 0; no == 0 && tries < MOST_TRIES; tries++) {
+ *         no = semivrakh_sender_status(sender, sizeof sender, status, SEMIVRAKH_SENDER_NUMBERS);
+ *         if (no != 0 || status[SEMIVRAKH_SENDER_PHASE] >= SEMIVRAKH_DONE) break;
+ *         no = semivrakh_sender_send(sender, sizeof sender, sound, n, frame, sizeof frame, &length);
+ *         if (no != 0) break;
  *         put_on_line(frame, length);
  *         if ((length = wait_for_answer(answer)) > 0) semivrakh_sender_hear(sender, sizeof sender, answer, length);
  *     }
@@ -215,9 +272,19 @@ uint8_t semivrakh_pack_seal(const uint8_t *name, size_t name_length,
  *     if (semivrakh_receiver_hear(receiver, sizeof receiver, frame, length, room, sizeof room, answer, sizeof answer,
  *                                 &length) == 0) put_on_line(answer, length);
  *
- * A transfer ends with DONE, the receiver holding the whole sound, or with REFUSED_TOO_LONG. A frame that comes late,
- * twice or out of turn does no harm: it is refused, or it is no news. A pair of ends must be made fresh together, with
- * the same key and pair name, and neither may be set back to an older record.
+ * A transfer ends with DONE, the receiver holding the whole sound, or with REFUSED_TOO_LONG; or it is given up, which
+ * is to stop sending, and the next beginning goes over it. A refused beginning leaves the record as it was, and after a
+ * done transfer that still says DONE: look at what beginning answers. A frame that comes late, twice or out of turn
+ * does no harm: it is refused (22, 24, 25, 26: ignore it), or it is no news. A frame is lent whole and alone; on a line
+ * of bytes the caller marks where each begins and ends.
+ *
+ * The instrument may take the sound out of its buffer while semivrakh_receiver_status says WHOLE, and until the next
+ * transfer's first block is heard. That another buffer was lent, or that the sound was altered while it was sent, goes
+ * unnoticed.
+ *
+ * A pair of ends must be made fresh together, with the same key and pair name, and neither may be set back to an older
+ * record. A sender made anew begins with session 1, and a receiver that was kept refuses all its openings with 25: then
+ * both ends are made anew, under another pair name. The longest pack, 32,882 bytes, is longer than the longest sound.
  */
 
 /* Makes a sender, idle, at the front of `sender`. Refuses, in order: 1, 2, 19 (fewer than 27 bytes for the record). */
@@ -247,6 +314,13 @@ uint8_t semivrakh_sender_hear(uint8_t *sender, size_t sender_length,
                               const uint8_t *frame, size_t frame_length);
 
 /*
+ * What a sender's record says: five numbers, SEMIVRAKH_SENDER_.., to the front of `answer`.
+ * Refuses, in order: 27, 19 (fewer than five numbers lent).
+ */
+uint8_t semivrakh_sender_status(const uint8_t *sender, size_t sender_length,
+                                size_t *answer, size_t answer_room);
+
+/*
  * The link, receiver's end. Makes a receiver at the front of `receiver`.
  * Refuses, in order: 1, 2, 19 (fewer than 26 bytes for the record).
  */
@@ -256,8 +330,8 @@ uint8_t semivrakh_receiver_make(uint8_t *receiver, size_t receiver_length,
 
 /*
  * Hears a frame of the sender, lent exactly. Writes the answer frame to the front of `answer` and its length to
- * `*answer_length`. `sound` is the buffer that sounds arrive in: lend this receiver the same one, at the same length, in
- * every call from its making on, and let nobody else write to it. A block in turn writes its own bytes there, and
+ * `*answer_length`. `sound` is the buffer that sounds arrive in: lend this receiver the same one, at the same length,
+ * in every call from its making on, and let nobody else write to it. A block in turn writes its own bytes there, and
  * nothing else writes anything.
  * Refuses, in order: 27, 24, 25, 26, 23 (the buffer is shorter than the transfer), 19 (fewer than 7 bytes for an
  * answer).
@@ -267,6 +341,16 @@ uint8_t semivrakh_receiver_hear(uint8_t *receiver, size_t receiver_length,
                                 uint8_t *sound, size_t sound_length,
                                 uint8_t *answer, size_t answer_room,
                                 size_t *answer_length);
+
+/*
+ * What a receiver's record says: five numbers, SEMIVRAKH_RECEIVER_.., to the front of `answer`.
+ * Refuses, in order: 27, 19 (fewer than five numbers lent).
+ */
+uint8_t semivrakh_receiver_status(const uint8_t *receiver, size_t receiver_length,
+                                  size_t *answer, size_t answer_room);
+
+/* The version of the library that is linked. It is SEMIVRAKH_VERSION where library and header belong together. */
+uint32_t semivrakh_version(void);
 
 #ifdef __cplusplus
 }

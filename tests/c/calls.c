@@ -15,8 +15,12 @@ static struct lending to_write(const char *name, struct run run) {
     return lend(name, run, 1, true);
 }
 
+static struct lending numbers_to_write(const char *name, struct run run) {
+    return lend(name, run, sizeof(size_t), true);
+}
+
 static struct lending number_to_write(const char *name) {
-    return lend(name, room(1), sizeof(size_t), true);
+    return numbers_to_write(name, room(1));
 }
 
 typedef uint8_t maker(uint8_t *, size_t, const uint8_t *, size_t, const uint8_t *, size_t);
@@ -46,6 +50,34 @@ uint8_t compare_receiver_make(struct run receiver, struct run key, struct run pa
     return compare_make(RECEIVER_MAKE, makers, receiver, key, pair);
 }
 
+typedef uint8_t teller(const uint8_t *, size_t, size_t *, size_t);
+
+/* The calls that only say in numbers what some bytes hold. */
+static uint8_t compare_telling(enum call call, teller *const tellers[SIDES], const char *name, struct run bytes,
+                               struct run answer) {
+    uint8_t numbers[SIDES];
+    lend_all((struct lending[]){to_read(name, bytes), numbers_to_write("answer", answer)}, 2);
+    for (enum side side = LIBRARY; side < SIDES; side++) {
+        numbers[side] = tellers[side](lent(side, 0), bytes.count, lent(side, 1), answer.count);
+    }
+    return settle(call, numbers);
+}
+
+uint8_t compare_pack_survey(struct run file, struct run answer) {
+    static teller *const tellers[SIDES] = {semivrakh_pack_survey, model_pack_survey};
+    return compare_telling(PACK_SURVEY, tellers, "file", file, answer);
+}
+
+uint8_t compare_sender_status(struct run sender, struct run answer) {
+    static teller *const tellers[SIDES] = {semivrakh_sender_status, model_sender_status};
+    return compare_telling(SENDER_STATUS, tellers, "sender", sender, answer);
+}
+
+uint8_t compare_receiver_status(struct run receiver, struct run answer) {
+    static teller *const tellers[SIDES] = {semivrakh_receiver_status, model_receiver_status};
+    return compare_telling(RECEIVER_STATUS, tellers, "receiver", receiver, answer);
+}
+
 uint8_t compare_cipher_encipher(struct run cipher, struct run input, struct run output) {
     uint8_t numbers[SIDES];
     lend_all((struct lending[]){to_write("cipher", cipher), to_read("input", input), to_write("output", output)}, 3);
@@ -60,12 +92,22 @@ uint8_t compare_pack_open(struct run file, struct run ring, struct run samples, 
     uint8_t numbers[SIDES];
     lend_all((struct lending[]){to_read("file", file), to_read("ring", ring),
                                 lend("samples", samples, sizeof(int16_t), true),
-                                lend("answer", answer, sizeof(size_t), true)}, 4);
+                                numbers_to_write("answer", answer)}, 4);
     numbers[LIBRARY] = semivrakh_pack_open(lent(LIBRARY, 0), file.count, lent(LIBRARY, 1), ring.count,
                                            lent(LIBRARY, 2), samples.count, lent(LIBRARY, 3), answer.count);
     numbers[MODEL] = model_pack_open(lent(MODEL, 0), file.count, lent(MODEL, 1), ring.count,
                                      lent(MODEL, 2), samples.count, lent(MODEL, 3), answer.count);
     return settle(PACK_OPEN, numbers);
+}
+
+uint8_t compare_pack_loops(struct run file, struct run loops) {
+    uint8_t numbers[SIDES];
+    lend_all((struct lending[]){to_read("file", file), lend("loops", loops, sizeof(uint32_t), true),
+                                number_to_write("loop_numbers")}, 3);
+    numbers[LIBRARY] = semivrakh_pack_loops(lent(LIBRARY, 0), file.count, lent(LIBRARY, 1), loops.count,
+                                            lent(LIBRARY, 2));
+    numbers[MODEL] = model_pack_loops(lent(MODEL, 0), file.count, lent(MODEL, 1), loops.count, lent(MODEL, 2));
+    return settle(PACK_LOOPS, numbers);
 }
 
 uint8_t compare_pack_seal(const struct sealing *sealing) {

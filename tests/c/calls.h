@@ -23,6 +23,8 @@ static inline struct run room(size_t count) {
 uint8_t compare_cipher_make(struct run cipher, struct run key, struct run value);
 uint8_t compare_cipher_encipher(struct run cipher, struct run input, struct run output);
 uint8_t compare_pack_open(struct run file, struct run ring, struct run samples, struct run answer);
+uint8_t compare_pack_survey(struct run file, struct run answer);
+uint8_t compare_pack_loops(struct run file, struct run loops);
 
 struct sealing {
     struct run name, ring;
@@ -38,7 +40,9 @@ uint8_t compare_sender_make(struct run sender, struct run key, struct run pair);
 uint8_t compare_sender_begin(struct run sender, struct run sound);
 uint8_t compare_sender_send(struct run sender, struct run sound, struct run frame);
 uint8_t compare_sender_hear(struct run sender, struct run frame);
+uint8_t compare_sender_status(struct run sender, struct run answer);
 uint8_t compare_receiver_make(struct run receiver, struct run key, struct run pair);
 uint8_t compare_receiver_hear(struct run receiver, struct run frame, struct run sound, struct run answer);
+uint8_t compare_receiver_status(struct run receiver, struct run answer);
 
 #endif

@@ -24,15 +24,15 @@ struct size {
     uint64_t each_number_a_call; /* for a call that lists it, at least */
 };
 
-static const struct size short_run = {60000, 100, 1};
+static const struct size short_run = {80000, 100, 1};
 static const struct size long_run = {3000000, 100, 100};
 
 static void (*const families[])(void) = {
     making_ciphers,      enciphering,       streams_in_pieces,    damaged_ciphers, random_cipher_input,
     sealing_packs,       opening_packs,     damaged_packs,        random_packs,    packs_of_all_shapes,
     large_packs,         making_ends,       beginning,            sending,         sender_hearing,
-    receiver_hearing,    damaged_sender,    damaged_receiver,     random_link_input, whole_transfers,
-    some_records_at_the_edges,
+    receiver_hearing,    asking_ends,       damaged_sender,       damaged_receiver, random_link_input,
+    whole_transfers,     some_records_at_the_edges,
 };
 
 enum { FAMILIES = sizeof families / sizeof *families };

@@ -10,7 +10,7 @@
 enum { STREAM_MOST = 6000 };
 
 static void make_with(faults set) {
-    size_t room_length = has(set, 19) ? shorter_than(SEMIVRAKH_CIPHER_BYTES) : enough(SEMIVRAKH_CIPHER_BYTES);
+    size_t room_length = enough_but_for(set, SEMIVRAKH_CIPHER_BYTES);
     plan_first(CIPHER_MAKE, set);
     compare_cipher_make(room(room_length), room(has(set, 1) ? wrong_length(10) : 10),
                         room(has(set, 2) ? wrong_length(10) : 10));
@@ -28,7 +28,7 @@ static void encipher_with(faults set) {
     size_t input = random_between(has(set, 19) ? 1 : 0, 80);
     plan_first(CIPHER_ENCIPHER, set);
     compare_cipher_encipher(room(has(set, 3) ? wrong_length(SEMIVRAKH_CIPHER_BYTES) : SEMIVRAKH_CIPHER_BYTES),
-                            room(input), room(has(set, 19) ? shorter_than(input) : enough(input)));
+                            room(input), room(enough_but_for(set, input)));
 }
 
 /* Any 48 bytes are a cipher, so the records of these comparisons are noise, spare bits and all. */

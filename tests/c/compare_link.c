@@ -10,14 +10,14 @@
 
 static void make_sender_with(faults set) {
     plan_first(SENDER_MAKE, set);
-    compare_sender_make(room(has(set, 19) ? shorter_than(SENDER) : enough(SENDER)),
-                        room(has(set, 1) ? wrong_length(10) : 10), room(has(set, 2) ? wrong_length(6) : 6));
+    compare_sender_make(room(enough_but_for(set, SENDER)), room(has(set, 1) ? wrong_length(10) : 10),
+                        room(has(set, 2) ? wrong_length(6) : 6));
 }
 
 static void make_receiver_with(faults set) {
     plan_first(RECEIVER_MAKE, set);
-    compare_receiver_make(room(has(set, 19) ? shorter_than(RECEIVER) : enough(RECEIVER)),
-                          room(has(set, 1) ? wrong_length(10) : 10), room(has(set, 2) ? wrong_length(6) : 6));
+    compare_receiver_make(room(enough_but_for(set, RECEIVER)), room(has(set, 1) ? wrong_length(10) : 10),
+                          room(has(set, 2) ? wrong_length(6) : 6));
 }
 
 void making_ends(void) {
@@ -38,8 +38,9 @@ static void begin_with(faults set) {
     if (has(set, 20)) state.session = UINT32_MAX;
     else if (state.session == UINT32_MAX) state.session--;
     if (has(set, 27)) break_sender();
+    struct run sender = sender_record();
     plan_first(SENDER_BEGIN, set);
-    compare_sender_begin(sender_record(), room(has(set, 21) ? too_long_a_sound() : choose_length()));
+    ask_sender(sender, compare_sender_begin(sender, room(has(set, 21) ? too_long_a_sound() : choose_length())));
 }
 
 void beginning(void) {
@@ -55,8 +56,9 @@ static void send_with(faults set) {
     size_t sound = state.length;
     if (has(set, 23)) sound = random_once_in(4) ? too_long_a_sound() : wrong_length(state.length);
     if (has(set, 27)) break_sender();
+    struct run sender = sender_record();
     plan_first(SENDER_SEND, set);
-    compare_sender_send(sender_record(), room(sound), room(has(set, 19) ? shorter_than(due) : enough(due)));
+    ask_sender(sender, compare_sender_send(sender, room(sound), room(enough_but_for(set, due))));
 }
 
 void sending(void) {
@@ -83,6 +85,11 @@ static void unmake_answer(void) {
     }
 }
 
+static void sender_hears(void) {
+    struct run sender = sender_record();
+    ask_sender(sender, compare_sender_hear(sender, heard_frame()));
+}
+
 static void sender_hears_with(faults set) {
     choose_sender(!has(set, 22));
     uint32_t session = has(set, 25) || state.session == 0 ? other_session(state.session) : state.session;
@@ -91,7 +98,7 @@ static void sender_hears_with(faults set) {
     if (has(set, 24)) unmake_answer();
     if (has(set, 27)) break_sender();
     plan_first(SENDER_HEAR, set);
-    compare_sender_hear(sender_record(), heard_frame());
+    sender_hears();
 }
 
 void sender_hearing(void) {
@@ -99,7 +106,7 @@ void sender_hearing(void) {
     for (uint32_t count = 0; count < 5; count++) {
         choose_sender(true);
         write_holds(state.session, random_once_in(3) ? some_count() : count);
-        compare_sender_hear(sender_record(), heard_frame());
+        sender_hears();
     }
 }
 
@@ -130,6 +137,11 @@ static void unmake_question(void) {
     }
 }
 
+static void receiver_hears(size_t sound, size_t answer_room) {
+    struct run receiver = receiver_record();
+    ask_receiver(receiver, compare_receiver_hear(receiver, heard_frame(), room(sound), room(answer_room)));
+}
+
 static void receiver_hears_with(faults set) {
     size_t sound = 0;
     choose_receiver();
@@ -144,8 +156,7 @@ static void receiver_hears_with(faults set) {
     else sound = random_once_in(2) ? random_below(500) : enough(state.length);
     if (has(set, 27)) break_receiver();
     plan_first(RECEIVER_HEAR, set);
-    compare_receiver_hear(receiver_record(), heard_frame(), room(sound),
-                          room(has(set, 19) ? shorter_than(SEMIVRAKH_ANSWER_MOST) : enough(SEMIVRAKH_ANSWER_MOST)));
+    receiver_hears(sound, enough_but_for(set, SEMIVRAKH_ANSWER_MOST));
 }
 
 /* A fresh receiver takes every opening, and no block. */
@@ -154,7 +165,7 @@ static void fresh_receiver_hears(void) {
     state.session = state.length = 0;
     if (random_once_in(2)) write_opening(choose_session(), choose_length());
     else write_block(choose_session(), some_count(), random_between(1, 64));
-    compare_receiver_hear(receiver_record(), heard_frame(), room(random_below(400)), room(enough(7)));
+    receiver_hears(random_below(400), enough(7));
 }
 
 static void opening_at_the_buffers_edge(void) {
@@ -162,7 +173,7 @@ static void opening_at_the_buffers_edge(void) {
     if (state.session == UINT32_MAX) state.session--;
     uint32_t length = random_between(1, 200);
     write_opening(state.session + 1, length);
-    compare_receiver_hear(receiver_record(), heard_frame(), room(length + random_below(3) - 1), room(enough(7)));
+    receiver_hears(length + random_below(3) - 1, enough(7));
 }
 
 void receiver_hearing(void) {
@@ -170,5 +181,28 @@ void receiver_hearing(void) {
     for (int i = 0; i < 10; i++) {
         fresh_receiver_hears();
         opening_at_the_buffers_edge();
+    }
+}
+
+/* What the ends say of themselves. */
+
+static void ask_sender_with(faults set) {
+    choose_sender(random_once_in(2));
+    if (has(set, 27)) break_sender();
+    plan_first(SENDER_STATUS, set);
+    compare_sender_status(sender_record(), room(enough_but_for(set, SEMIVRAKH_SENDER_NUMBERS)));
+}
+
+static void ask_receiver_with(faults set) {
+    choose_receiver();
+    if (has(set, 27)) break_receiver();
+    plan_first(RECEIVER_STATUS, set);
+    compare_receiver_status(receiver_record(), room(enough_but_for(set, SEMIVRAKH_RECEIVER_NUMBERS)));
+}
+
+void asking_ends(void) {
+    for (int i = 0; i < 5; i++) {
+        with_each_fault_set(SENDER_STATUS, 0, ask_sender_with);
+        with_each_fault_set(RECEIVER_STATUS, 0, ask_receiver_with);
     }
 }

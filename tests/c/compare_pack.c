@@ -25,6 +25,7 @@ struct parts {
 static struct parts parts;
 static uint8_t file[FILE_ROOM];
 static size_t file_length;
+static size_t opened[SEMIVRAKH_OPENED_NUMBERS]; /* what the last accepted opening answered */
 
 /* Loops in rule, among at least one sample. */
 static void choose_loops(size_t numbers, uint32_t samples) {
@@ -103,6 +104,25 @@ static void claim_many_samples(void) {
     if (parts.claimed_samples == 16385 && random_once_in(4)) parts.samples = 16385;
 }
 
+static struct run lent_file(void) {
+    return run_of(file, file_length);
+}
+
+static uint8_t open_file(struct run ring, size_t sample_room, size_t answer_room) {
+    uint8_t no = compare_pack_open(lent_file(), ring, room(sample_room), room(answer_room));
+    if (no == 0) memcpy(opened, after(3), sizeof opened);
+    return no;
+}
+
+/* Surveys the file that opening answered `opening` to. */
+static void survey_file(uint8_t opening, size_t answer_room) {
+    uint8_t no = compare_pack_survey(lent_file(), room(answer_room));
+    if (no == 0 && opening == 0 && memcmp(after(1), opened, sizeof opened) != 0) {
+        differ("a pack is surveyed with other numbers than it is opened with");
+    }
+}
+
+/* Survey and loops take no ring, and list no 1: it is passed over where their number is planned. */
 static void open_with(faults set) {
     size_t sample_room, answer_room = enough(7);
     choose_small_parts();
@@ -121,8 +141,11 @@ static void open_with(faults set) {
     }
     write_file();
     plan_first(PACK_OPEN, set);
-    compare_pack_open(run_of(file, file_length), room(has(set, 1) ? wrong_length(40) : 40), room(sample_room),
-                      room(answer_room));
+    uint8_t no = open_file(room(has(set, 1) ? wrong_length(40) : 40), sample_room, answer_room);
+    plan_first(PACK_SURVEY, set);
+    survey_file(no, enough_but_for(set, 7));
+    plan_first(PACK_LOOPS, set);
+    compare_pack_loops(lent_file(), room(enough_but_for(set, parts.loop_numbers)));
 }
 
 /* A file that ends early is refused by where it ends, so 10 is left to damaged_packs. */
@@ -130,25 +153,38 @@ void opening_packs(void) {
     with_each_fault_set(PACK_OPEN, fault(10), open_with);
 }
 
-static void open_file(void) {
-    compare_pack_open(run_of(file, file_length), room(40), room(enough(parts.samples)), room(enough(7)));
+/* What is wrong with a file is the same without keys; the room is another thing. */
+static void plan_as_opening(uint8_t opening) {
+    if (opening != 0 && opening != SEMIVRAKH_NO_ROOM) plan_number(opening);
 }
 
-static void open_every_front(void) {
+static void read_file_in(size_t sample_room) {
+    uint8_t no = open_file(room(40), sample_room, enough(7));
+    plan_as_opening(no);
+    survey_file(no, enough_or_not(7));
+    plan_as_opening(no);
+    compare_pack_loops(lent_file(), room(enough_or_not(parts.loop_numbers)));
+}
+
+static void read_file(void) {
+    read_file_in(enough(parts.samples));
+}
+
+static void read_every_front(void) {
     size_t whole = file_length;
     for (file_length = 0; file_length < whole; file_length++) {
         plan_number(10);
-        open_file();
+        read_file();
     }
 }
 
-static void open_lengthened(void) {
+static void read_lengthened(void) {
     size_t whole = file_length;
     for (size_t more = 1; more <= 3; more++) {
         file[whole + more - 1] = (uint8_t)random_next();
         file_length = whole + more;
         plan_number(18);
-        open_file();
+        read_file();
     }
     file_length = whole;
 }
@@ -158,32 +194,45 @@ void damaged_packs(void) {
     choose_parts(random_below(6), samples, random_below(3));
     write_file();
     plan_number(0);
-    open_file();
-    open_every_front();
-    open_lengthened();
+    read_file();
+    read_every_front();
+    read_lengthened();
     file_length -= random_once_in(2) ? 0 : random_below((uint32_t)file_length);
-    with_each_byte_damaged(file, file_length, open_file);
+    with_each_byte_damaged(file, file_length, read_file);
+}
+
+/* Asks for the loops of what was sealed, in too little room and in enough. */
+static void read_loops_again(struct run sealed) {
+    if (sealed.count > 0) {
+        plan_number(SEMIVRAKH_NO_ROOM);
+        compare_pack_loops(lent_file(), room(shorter_than(sealed.count)));
+    }
+    plan_number(0);
+    compare_pack_loops(lent_file(), room(enough(sealed.count)));
+    if (*(const size_t *)after(2) != sealed.count || memcmp(after(1), sealed.content, 4 * sealed.count) != 0) {
+        differ("a sealed pack gives back other loops");
+    }
 }
 
 /* Opens what was sealed, and looks whether the parts come back. */
-static void open_again(const struct sealing *sealing, const int16_t *samples) {
-    size_t answer[7];
+static void read_again(const struct sealing *sealing, const int16_t *samples) {
     file_length = *(const size_t *)after(SEALED_LENGTH);
     memcpy(file, after(SEALED_OUTPUT), file_length);
     plan_number(0);
-    compare_pack_open(run_of(file, file_length), sealing->ring, room(enough(sealing->samples.count)), room(7));
-    memcpy(answer, after(3), sizeof answer);
+    open_file(sealing->ring, enough(sealing->samples.count), 7);
     if (memcmp(after(2), samples, 2 * sealing->samples.count) != 0) differ("a sealed sound opens as another");
-    if (answer[SEMIVRAKH_OPENED_SAMPLES] != sealing->samples.count
-        || answer[SEMIVRAKH_OPENED_LOOPS] != sealing->loops.count / 2
-        || answer[SEMIVRAKH_OPENED_KEY] != sealing->key_number
-        || answer[SEMIVRAKH_OPENED_NAME_LENGTH] != sealing->name.count) {
+    if (opened[SEMIVRAKH_OPENED_SAMPLES] != sealing->samples.count
+        || opened[SEMIVRAKH_OPENED_LOOPS] != sealing->loops.count / 2
+        || opened[SEMIVRAKH_OPENED_KEY] != sealing->key_number
+        || opened[SEMIVRAKH_OPENED_NAME_LENGTH] != sealing->name.count) {
         differ("a sealed pack opens with other counts");
     }
-    if (memcmp(file + answer[SEMIVRAKH_OPENED_NAME_AT], parts.name, parts.name_length) != 0
-        || memcmp(file + answer[SEMIVRAKH_OPENED_VALUE_AT], parts.value, 10) != 0) {
+    if (memcmp(file + opened[SEMIVRAKH_OPENED_NAME_AT], parts.name, parts.name_length) != 0
+        || memcmp(file + opened[SEMIVRAKH_OPENED_VALUE_AT], parts.value, 10) != 0) {
         differ("a sealed pack has its name or value elsewhere");
     }
+    survey_file(0, enough_or_not(7));
+    read_loops_again(sealing->loops);
 }
 
 static size_t sealed_length(void) {
@@ -214,7 +263,7 @@ static void seal_parts(size_t value_length, size_t ring_length, size_t output_le
         .output = room(output_length),
     };
     plan_first(PACK_SEAL, set);
-    if (compare_pack_seal(&sealing) == 0) open_again(&sealing, samples);
+    if (compare_pack_seal(&sealing) == 0) read_again(&sealing, samples);
 }
 
 static void seal_with(faults set) {
@@ -228,7 +277,7 @@ static void seal_with(faults set) {
     if (has(set, 17)) spoil_loop((uint32_t)parts.samples);
     if (has(set, 16) && random_once_in(2)) parts.loop_numbers = 2 * random_below(9) + 1;
     seal_parts(has(set, 2) ? wrong_length(10) : 10, has(set, 1) ? wrong_length(40) : 40,
-               has(set, 19) ? shorter_than(sealed_length()) : enough(sealed_length()), set);
+               enough_but_for(set, sealed_length()), set);
 }
 
 void sealing_packs(void) {
@@ -249,15 +298,15 @@ void packs_of_all_shapes(void) {
     }
 }
 
-static void open_with_one_change(void) {
+static void read_with_one_change(void) {
     size_t whole = file_length, place = random_below((uint32_t)file_length);
     uint8_t right = file[place];
     file[place] = (uint8_t)random_next();
-    open_file();
+    read_file();
     file[place] = right;
     file_length = place;
     plan_number(10);
-    open_file();
+    read_file();
     file_length = whole;
 }
 
@@ -268,19 +317,24 @@ void large_packs(void) {
     size_t samples = sizes[random_below(sizeof sizes / sizeof *sizes)];
     if (largest) samples = SEMIVRAKH_SAMPLES_MOST - random_below(2);
     seal_shape(random_below(33), samples, random_below(9));
-    open_with_one_change();
-    for (int i = 0; !largest && i < 5; i++) open_with_one_change();
+    read_with_one_change();
+    for (int i = 0; !largest && i < 5; i++) read_with_one_change();
+}
+
+static void choose_random_file(void) {
+    file_length = random_below(100);
+    memcpy(file, noise(file_length), file_length);
 }
 
 void random_packs(void) {
     for (int i = 0; i < 20; i++) {
-        compare_pack_open(room(random_below(100)), room(40), room(random_below(50)), room(7));
-        file_length = random_below(100);
-        memcpy(file, noise(file_length), file_length);
+        choose_random_file();
+        read_file_in(random_below(50));
+        choose_random_file();
         file[0] = 0;
         file[1] = 11;
         file[2] &= 3;
         memset(file + 13, 0, 4);
-        compare_pack_open(run_of(file, file_length), room(40), room(random_below(50)), room(7));
+        read_file_in(random_below(50));
     }
 }

@@ -12,14 +12,30 @@
 
 static size_t damaged_record_length, damaged_sound;
 
+static struct run damaged_record(void) {
+    return run_of(record, damaged_record_length);
+}
+
+static void sender_hears(void) {
+    compare_sender_hear(damaged_record(), heard_frame());
+}
+
 static void sender_answers(void) {
-    compare_sender_hear(run_of(record, damaged_record_length), heard_frame());
-    if (random_once_in(4)) compare_sender_send(run_of(record, damaged_record_length), room(damaged_sound), room(72));
-    if (random_once_in(4)) compare_sender_begin(run_of(record, damaged_record_length), room(random_below(70)));
+    ask_sender(damaged_record(), compare_sender_hear(damaged_record(), heard_frame()));
+    if (random_once_in(2)) compare_sender_send(damaged_record(), room(damaged_sound), room(72));
+    if (random_once_in(2)) compare_sender_begin(damaged_record(), room(random_below(70)));
+}
+
+static uint8_t receiver_answers_frame(void) {
+    return compare_receiver_hear(damaged_record(), heard_frame(), room(damaged_sound), room(enough(7)));
+}
+
+static void receiver_hears(void) {
+    receiver_answers_frame();
 }
 
 static void receiver_answers(void) {
-    compare_receiver_hear(run_of(record, damaged_record_length), heard_frame(), room(damaged_sound), room(enough(7)));
+    ask_receiver(damaged_record(), receiver_answers_frame());
 }
 
 static void with_every_length(size_t *length, size_t most, void (*one)(void)) {
@@ -28,14 +44,15 @@ static void with_every_length(size_t *length, size_t most, void (*one)(void)) {
     *length = right;
 }
 
-static void damage_all(size_t record_length, void (*one)(void)) {
+/* All calls on the record meet its damage, and hearing alone that of the frame. */
+static void damage_all(size_t record_length, void (*end_answers)(void), void (*end_hears)(void)) {
     damaged_record_length = record_length;
     damaged_sound = state.length;
-    one();
-    with_each_byte_damaged(record, record_length, one);
-    with_each_byte_damaged(frame.bytes, frame.length, one);
-    with_every_length(&damaged_record_length, record_length + 3, one);
-    with_every_length(&frame.length, frame.length + 3, one);
+    end_answers();
+    with_each_byte_damaged(record, record_length, end_answers);
+    with_each_byte_damaged(frame.bytes, frame.length, end_hears);
+    with_every_length(&damaged_record_length, record_length + 3, end_answers);
+    with_every_length(&frame.length, frame.length + 3, end_hears);
 }
 
 /* Damage is done many times over, so the sounds are kept short. */
@@ -50,7 +67,7 @@ void damaged_sender(void) {
     if (state.phase == SEMIVRAKH_SENDING) state.progress = choose_below(blocks());
     sender_record();
     write_possible_answer(state.session);
-    damage_all(SENDER, sender_answers);
+    damage_all(SENDER, sender_answers, sender_hears);
 }
 
 void damaged_receiver(void) {
@@ -59,7 +76,7 @@ void damaged_receiver(void) {
     receiver_record();
     if (state.length == 0 || random_once_in(2)) write_opening_heard(false);
     else write_block_heard(false);
-    damage_all(RECEIVER, receiver_answers);
+    damage_all(RECEIVER, receiver_answers, receiver_hears);
 }
 
 /* Records at the edges of their fields, in rule or not: all of them, or one in `edges_taken_once_in`. */
@@ -75,7 +92,7 @@ static void sender_at_an_edge(void) {
     write_too_long(state.session);
     compare_sender_hear(sender, heard_frame());
     compare_sender_send(sender, room(state.length), room(enough(72)));
-    compare_sender_begin(sender, room(choose_length()));
+    ask_sender(sender, compare_sender_begin(sender, room(choose_length())));
 }
 
 static void receiver_at_an_edge(void) {
@@ -86,7 +103,7 @@ static void receiver_at_an_edge(void) {
     write_block(state.session, state.progress, state.length % 64 == 0 || random_once_in(2) ? 64 : state.length % 64);
     compare_receiver_hear(receiver, heard_frame(), room(lent_sound), room(7));
     write_block(state.session, state.progress - 1, 64);
-    compare_receiver_hear(receiver, heard_frame(), room(lent_sound), room(7));
+    ask_receiver(receiver, compare_receiver_hear(receiver, heard_frame(), room(lent_sound), room(7)));
 }
 
 static void each_progress(void (*at_an_edge)(void)) {
@@ -134,20 +151,21 @@ static void random_state(uint8_t *bytes) {
 }
 
 void random_link_input(void) {
+    const struct run sender = run_of(record, SENDER), receiver = run_of(record, RECEIVER);
     for (int i = 0; i < 30; i++) {
         memcpy(record, noise(RECORD_ROOM), RECORD_ROOM);
         random_state(record);
         record[SEMIVRAKH_SENDER_PHASE_AT] = (uint8_t)random_below(6);
         model_write_number(record + SEMIVRAKH_SENDER_KNOWN_AT, 2, random_once_in(8) ? some_count() : random_below(6));
         start_frame((uint8_t)random_below(6), random_below(4), random_below(12));
-        compare_sender_hear(run_of(record, SENDER), heard_frame());
-        compare_sender_send(run_of(record, SENDER), room(model_number_at(record + SEMIVRAKH_LENGTH_AT, 4) % 33000),
+        compare_sender_hear(sender, heard_frame());
+        compare_sender_send(sender, room(model_number_at(record + SEMIVRAKH_LENGTH_AT, 4) % 33000),
                             room(random_below(75)));
-        compare_sender_begin(run_of(record, SENDER), room(choose_length()));
+        ask_sender(sender, compare_sender_begin(sender, room(choose_length())));
         model_write_number(record + SEMIVRAKH_RECEIVER_COUNT_AT, 2, random_once_in(8) ? some_count() : random_below(6));
         frame.bytes[7] = (uint8_t)random_below(66);
         frame.length = frame.bytes[0] == 2 ? 8u + frame.bytes[7] : random_below(12);
-        compare_receiver_hear(run_of(record, RECEIVER), heard_frame(), room(random_below(300)),
-                              room(random_between(5, 9)));
+        ask_receiver(receiver, compare_receiver_hear(receiver, heard_frame(), room(random_below(300)),
+                                                     room(random_between(5, 9))));
     }
 }

@@ -20,6 +20,7 @@ void beginning(void);
 void sending(void);
 void sender_hearing(void);
 void receiver_hearing(void);
+void asking_ends(void);
 void damaged_sender(void);
 void damaged_receiver(void);
 void all_records_at_the_edges(void);

@@ -46,6 +46,14 @@ size_t enough(size_t right) {
     return right + (random_once_in(2) ? 0 : random_between(1, 20));
 }
 
+size_t enough_but_for(faults set, size_t right) {
+    return has(set, 19) ? shorter_than(right) : enough(right);
+}
+
+size_t enough_or_not(size_t right) {
+    return right > 0 && random_once_in(4) ? shorter_than(right) : enough(right);
+}
+
 void with_each_byte_damaged(uint8_t *bytes, size_t count, void (*one)(void)) {
     for (size_t i = 0; i < count; i++) {
         uint8_t right = bytes[i];

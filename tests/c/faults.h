@@ -32,6 +32,10 @@ size_t wrong_length(size_t right);
 size_t shorter_than(size_t right);
 /* `right` or somewhat more. */
 size_t enough(size_t right);
+/* Shorter if the set has 19, for want of room, and otherwise enough. */
+size_t enough_but_for(faults set, size_t right);
+/* Either of them; enough if `right` is 0. */
+size_t enough_or_not(size_t right);
 
 /* For each byte of `bytes` and several values of it: calls `one`, and puts the byte back. */
 void with_each_byte_damaged(uint8_t *bytes, size_t count, void (*one)(void));

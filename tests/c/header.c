@@ -1,2 +1,3 @@
-/* The header by itself, as C. */
+/* The headers by themselves, as C. The other order stands in header.cpp, so neither leans on the other. */
 #include "semivrakh.h"
+#include "semivrakh_words.h"

@@ -1,34 +1,102 @@
-// The header as C++: every call is named and linked, and one stream goes there and back.
+// The headers as C++: every call is named and linked, one stream and one pack go there and back, one empty sound goes
+// over the link, and each number for no has its words.
+#include "semivrakh_words.h"
 #include "semivrakh.h"
 
+#include <cstdio>
 #include <cstring>
 
-int main() {
-    const uint8_t key[SEMIVRAKH_KEY_BYTES] = {}, value[SEMIVRAKH_VALUE_BYTES] = {};
+static const uint8_t key[SEMIVRAKH_KEY_BYTES] = {}, value[SEMIVRAKH_VALUE_BYTES] = {};
+static const uint8_t ring[SEMIVRAKH_RING_BYTES] = {};
+
+static bool stream_comes_back() {
     const uint8_t plain[5] = {'s', 'o', 'u', 'n', 'd'};
     uint8_t cipher[SEMIVRAKH_CIPHER_BYTES], sealed[sizeof plain], opened[sizeof plain];
-    uint8_t sender[SEMIVRAKH_SENDER_BYTES], receiver[SEMIVRAKH_RECEIVER_BYTES];
-    uint8_t frame[SEMIVRAKH_FRAME_MOST], answer[SEMIVRAKH_ANSWER_MOST], pack[32];
-    size_t length = 0, answer_length = 0, pack_length = 0, numbers[SEMIVRAKH_OPENED_NUMBERS];
-    const uint8_t ring[SEMIVRAKH_RING_BYTES] = {};
-
     int no = semivrakh_cipher_make(cipher, sizeof cipher, key, sizeof key, value, sizeof value);
     no |= semivrakh_cipher_encipher(cipher, sizeof cipher, plain, sizeof plain, sealed, sizeof sealed);
     no |= semivrakh_cipher_make(cipher, sizeof cipher, key, sizeof key, value, sizeof value);
     no |= semivrakh_cipher_encipher(cipher, sizeof cipher, sealed, sizeof sealed, opened, sizeof opened);
-    if (no != SEMIVRAKH_OK || std::memcmp(plain, opened, sizeof plain) != 0) return 1;
+    return no == SEMIVRAKH_OK && std::memcmp(plain, opened, sizeof plain) == 0;
+}
 
-    no = semivrakh_pack_seal(nullptr, 0, ring, sizeof ring, 0, value, sizeof value, nullptr, 0, nullptr, 0,
-                             pack, sizeof pack, &pack_length);
-    no |= semivrakh_pack_open(pack, pack_length, ring, sizeof ring, nullptr, 0, numbers, SEMIVRAKH_OPENED_NUMBERS);
-    if (no != SEMIVRAKH_OK || numbers[SEMIVRAKH_OPENED_SAMPLES] != 0) return 1;
+static bool pack_comes_back() {
+    const int16_t samples[2] = {-1, 1};
+    const uint32_t loop[2] = {0, 2};
+    uint8_t pack[64];
+    int16_t opened[2];
+    uint32_t loops[2];
+    size_t length = 0, loop_numbers = 0, surveyed[SEMIVRAKH_OPENED_NUMBERS], numbers[SEMIVRAKH_OPENED_NUMBERS];
+    int no = semivrakh_pack_seal(nullptr, 0, ring, sizeof ring, 0, value, sizeof value, samples, 2, loop, 2,
+                                 pack, sizeof pack, &length);
+    no |= semivrakh_pack_survey(pack, length, surveyed, SEMIVRAKH_OPENED_NUMBERS);
+    no |= semivrakh_pack_open(pack, length, ring, sizeof ring, opened, 2, numbers, SEMIVRAKH_OPENED_NUMBERS);
+    no |= semivrakh_pack_loops(pack, length, loops, 2, &loop_numbers);
+    return no == SEMIVRAKH_OK && loop_numbers == 2 && std::memcmp(surveyed, numbers, sizeof numbers) == 0
+        && std::memcmp(opened, samples, sizeof samples) == 0 && std::memcmp(loops, loop, sizeof loop) == 0;
+}
 
-    no = semivrakh_sender_make(sender, sizeof sender, key, sizeof key, value, SEMIVRAKH_PAIR_BYTES);
+static bool empty_sound_arrives() {
+    uint8_t sender[SEMIVRAKH_SENDER_BYTES], receiver[SEMIVRAKH_RECEIVER_BYTES];
+    uint8_t frame[SEMIVRAKH_FRAME_MOST], answer[SEMIVRAKH_ANSWER_MOST];
+    size_t length = 0, answer_length = 0, sent[SEMIVRAKH_SENDER_NUMBERS], received[SEMIVRAKH_RECEIVER_NUMBERS];
+    int no = semivrakh_sender_make(sender, sizeof sender, key, sizeof key, value, SEMIVRAKH_PAIR_BYTES);
     no |= semivrakh_receiver_make(receiver, sizeof receiver, key, sizeof key, value, SEMIVRAKH_PAIR_BYTES);
     no |= semivrakh_sender_begin(sender, sizeof sender, nullptr, 0);
     no |= semivrakh_sender_send(sender, sizeof sender, nullptr, 0, frame, sizeof frame, &length);
     no |= semivrakh_receiver_hear(receiver, sizeof receiver, frame, length, nullptr, 0, answer, sizeof answer,
                                   &answer_length);
     no |= semivrakh_sender_hear(sender, sizeof sender, answer, answer_length);
-    return no == SEMIVRAKH_OK && sender[SEMIVRAKH_SENDER_PHASE_AT] == SEMIVRAKH_DONE ? 0 : 1;
+    no |= semivrakh_sender_status(sender, sizeof sender, sent, SEMIVRAKH_SENDER_NUMBERS);
+    no |= semivrakh_receiver_status(receiver, sizeof receiver, received, SEMIVRAKH_RECEIVER_NUMBERS);
+    return no == SEMIVRAKH_OK && sent[SEMIVRAKH_SENDER_PHASE] == SEMIVRAKH_DONE
+        && received[SEMIVRAKH_RECEIVER_WHOLE] == 1;
+}
+
+// All that the header's enum has.
+static const unsigned refusals[] = {
+    SEMIVRAKH_OK,             SEMIVRAKH_BAD_KEY,        SEMIVRAKH_BAD_VALUE,      SEMIVRAKH_NOT_A_CIPHER,
+    SEMIVRAKH_CUT_SHORT,      SEMIVRAKH_LONG_NAME,      SEMIVRAKH_BAD_NAME,       SEMIVRAKH_BAD_KEY_COUNT,
+    SEMIVRAKH_BAD_KEY_NUMBER, SEMIVRAKH_MANY_SAMPLES,   SEMIVRAKH_MANY_LOOPS,     SEMIVRAKH_BAD_LOOP,
+    SEMIVRAKH_MORE_BYTES,     SEMIVRAKH_NO_ROOM,        SEMIVRAKH_NO_SESSION,     SEMIVRAKH_LONG_SOUND,
+    SEMIVRAKH_NO_TRANSFER,    SEMIVRAKH_WRONG_SOUND,    SEMIVRAKH_NOT_A_FRAME,    SEMIVRAKH_OTHER_SESSION,
+    SEMIVRAKH_IMPOSSIBLE,     SEMIVRAKH_OUT_OF_RULE,
+};
+
+static bool is_refusal(unsigned number) {
+    for (unsigned refusal : refusals) {
+        if (refusal == number) return true;
+    }
+    return false;
+}
+
+static bool same(const char *one, const char *other) {
+    return std::strcmp(one, other) == 0;
+}
+
+// Words that no other number has, and advice; for any number that no call answers, the words for an unknown one.
+static bool each_number_has_words() {
+    const unsigned unknown = 256;
+    for (unsigned number = 0; number < unknown; number++) {
+        bool known = !same(semivrakh_words(number), semivrakh_words(unknown));
+        bool advised = !same(semivrakh_advice(number), semivrakh_advice(unknown));
+        if (known != is_refusal(number) || advised != known) return false;
+        for (unsigned other = 0; known && other < number; other++) {
+            if (same(semivrakh_words(number), semivrakh_words(other))) return false;
+        }
+    }
+    return true;
+}
+
+static int failed(const char *what) {
+    std::printf("FAILED: %s\n", what);
+    return 1;
+}
+
+int main() {
+    if (!stream_comes_back()) return failed("a stream comes back as another");
+    if (!pack_comes_back()) return failed("a pack comes back as another");
+    if (!empty_sound_arrives()) return failed("an empty sound doesn't arrive");
+    if (semivrakh_version() != SEMIVRAKH_VERSION) return failed("the library has another version than the header");
+    if (!each_number_has_words()) return failed("the words don't fit the numbers for no");
+    return 0;
 }

@@ -12,21 +12,27 @@ const uint8_t listed_refusals[CALLS][12] = {
     [CIPHER_MAKE] = {1, 2, 19},
     [CIPHER_ENCIPHER] = {3, 19},
     [PACK_OPEN] = {1, 10, 11, 12, 13, 14, 15, 16, 17, 18, 19},
+    [PACK_SURVEY] = {10, 11, 12, 13, 14, 15, 16, 17, 18, 19},
+    [PACK_LOOPS] = {10, 11, 12, 13, 14, 15, 16, 17, 18, 19},
     [PACK_SEAL] = {1, 11, 12, 2, 14, 15, 16, 17, 19},
     [SENDER_MAKE] = {1, 2, 19},
     [SENDER_BEGIN] = {27, 21, 20},
     [SENDER_SEND] = {27, 22, 23, 19},
     [SENDER_HEAR] = {27, 24, 22, 25, 26},
+    [SENDER_STATUS] = {27, 19},
     [RECEIVER_MAKE] = {1, 2, 19},
     [RECEIVER_HEAR] = {27, 24, 25, 26, 23, 19},
+    [RECEIVER_STATUS] = {27, 19},
 };
 
 const char *const call_names[CALLS] = {
     [CIPHER_MAKE] = "cipher_make",     [CIPHER_ENCIPHER] = "cipher_encipher",
-    [PACK_OPEN] = "pack_open",         [PACK_SEAL] = "pack_seal",
+    [PACK_OPEN] = "pack_open",         [PACK_SURVEY] = "pack_survey",
+    [PACK_LOOPS] = "pack_loops",       [PACK_SEAL] = "pack_seal",
     [SENDER_MAKE] = "sender_make",     [SENDER_BEGIN] = "sender_begin",
     [SENDER_SEND] = "sender_send",     [SENDER_HEAR] = "sender_hear",
-    [RECEIVER_MAKE] = "receiver_make", [RECEIVER_HEAR] = "receiver_hear",
+    [SENDER_STATUS] = "sender_status", [RECEIVER_MAKE] = "receiver_make",
+    [RECEIVER_HEAR] = "receiver_hear", [RECEIVER_STATUS] = "receiver_status",
 };
 
 enum { GUARD = 16, MEMORY = 1 << 19, ORIGINAL = SIDES, NOT_PLANNED = -1 };

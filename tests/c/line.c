@@ -4,7 +4,8 @@
  *
  *   - the bytes of the blocks that the receiver counts are the front of the sound begun under its session;
  *   - a call changes no byte of the buffer outside the block that it placed, and a refused call changes nothing at all;
- *   - the sender is done only while the receiver holds the whole sound of that session;
+ *   - the receiver says that it is whole exactly if it counts all blocks of a sound;
+ *   - the sender is done only while the receiver holds the whole sound of that session, and then knows of all blocks;
  *   - the sender is refused only if the sound is longer than the receiver's buffer;
  *   - no delivered frame is refused as no frame, as impossible, or for a record out of rule.
  *
@@ -73,6 +74,12 @@ static struct line_frame *latest_waiting(struct direction *way) {
     return latest;
 }
 
+static uint32_t session_of(const struct line_frame *frame) {
+    uint32_t session = 0;
+    for (int i = 1; i <= 4; i++) session = session << 8 | frame->bytes[i];
+    return session;
+}
+
 /* Takes a frame off the line: more often than not the latest, and otherwise any that was ever put there. */
 static const struct line_frame *take_off_line(struct direction *way) {
     struct line_frame *frame = latest_waiting(way);
@@ -81,7 +88,7 @@ static const struct line_frame *take_off_line(struct direction *way) {
     if (frame->delivered > 0) counted.repeated++;
     if (frame->delivered == 0 && frame->sent_as < way->sent) counted.delayed++;
     if (frame->delivered == 0 && frame->sent_as < way->latest_delivered) counted.reordered++;
-    if (number_at(frame->bytes + 1, 4) != session_of(sender)) counted.across_transfers++;
+    if (session_of(frame) != sender_says(SEMIVRAKH_SENDER_SESSION)) counted.across_transfers++;
     if (frame->sent_as > way->latest_delivered) way->latest_delivered = frame->sent_as;
     frame->delivered++;
     if (broken == ALTER && random_once_in(20)) frame->bytes[random_below((uint32_t)frame->length)] ^= 4;
@@ -92,16 +99,17 @@ static const struct line_frame *take_off_line(struct direction *way) {
 
 static void sender_sends(void) {
     uint8_t frame[FRAME] = {0};
+    size_t length = sender_says(SEMIVRAKH_SENDER_LENGTH);
     if (!under_way()) {
-        send_frame(frame, FRAME, length_of(sender), SEMIVRAKH_NO_TRANSFER);
+        send_frame(frame, FRAME, length, SEMIVRAKH_NO_TRANSFER);
     } else if (random_once_in(20)) {
-        send_frame(frame, random_below(9), length_of(sender), SEMIVRAKH_NO_ROOM);
+        send_frame(frame, random_below(9), length, SEMIVRAKH_NO_ROOM);
         counted.short_room++;
-    } else if (length_of(sender) > 0 && random_once_in(20)) {
-        send_frame(frame, FRAME, random_below(length_of(sender)), SEMIVRAKH_WRONG_SOUND);
+    } else if (length > 0 && random_once_in(20)) {
+        send_frame(frame, FRAME, random_below((uint32_t)length), SEMIVRAKH_WRONG_SOUND);
         counted.wrong_sound++;
     } else {
-        put_on_line(&to_receiver, frame, send_frame(frame, FRAME, length_of(sender), 0));
+        put_on_line(&to_receiver, frame, send_frame(frame, FRAME, length, 0));
     }
 }
 
@@ -133,7 +141,8 @@ static void something_happens(void) {
 
 /* A probe costs as many rounds as blocks are left, so long sounds get few. */
 static bool time_to_probe(void) {
-    return under_way() && random_once_in(8 + blocks_left() * blocks_left() / 4);
+    uint32_t left = (uint32_t)blocks_left();
+    return under_way() && random_once_in(8 + left * left / 4);
 }
 
 static size_t choose_length(void) {
@@ -184,13 +193,13 @@ static void one_pair(void) {
 }
 
 /* The paper's counts of rounds, with nothing lost. */
-static void worked_example(size_t length, uint32_t rounds_due) {
+static void worked_example(size_t length, size_t rounds_due) {
     make_pair();
     buffer_length = SOUND;
     begin(new_sound(length));
     counted.transfers++;
-    uint32_t rounds = finish_undisturbed();
-    if (rounds != rounds_due) fail("a sound of %zu bytes takes %" PRIu32 " rounds", length, rounds);
+    size_t rounds = finish_undisturbed();
+    if (rounds != rounds_due) fail("a sound of %zu bytes takes %zu rounds", length, rounds);
     counted.done++;
     forget_sounds();
 }

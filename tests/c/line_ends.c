@@ -25,75 +25,81 @@ _Noreturn void fail(const char *format, ...) {
     exit(1);
 }
 
-uint32_t number_at(const uint8_t *bytes, int count) {
-    uint32_t number = 0;
-    for (int i = 0; i < count; i++) number = number << 8 | bytes[i];
-    return number;
-}
-
 static void write_number(uint8_t *bytes, uint32_t number) {
     for (int i = 0; i < 4; i++) bytes[i] = (uint8_t)(number >> (24 - 8 * i));
 }
 
-uint32_t session_of(const uint8_t *record) {
-    return number_at(record + SEMIVRAKH_SESSION_AT, 4);
+size_t sender_says(int index) {
+    size_t answer[SEMIVRAKH_SENDER_NUMBERS];
+    uint8_t no = semivrakh_sender_status(sender, SENDER, answer, SEMIVRAKH_SENDER_NUMBERS);
+    if (no != 0) fail("the sender's status is refused with %d", no);
+    return answer[index];
 }
 
-uint32_t length_of(const uint8_t *record) {
-    return number_at(record + SEMIVRAKH_LENGTH_AT, 4);
+static size_t receiver_says(int index) {
+    size_t answer[SEMIVRAKH_RECEIVER_NUMBERS];
+    uint8_t no = semivrakh_receiver_status(receiver, RECEIVER, answer, SEMIVRAKH_RECEIVER_NUMBERS);
+    if (no != 0) fail("the receiver's status is refused with %d", no);
+    return answer[index];
 }
 
-uint8_t phase(void) {
-    return sender[SEMIVRAKH_SENDER_PHASE_AT];
+size_t phase(void) {
+    return sender_says(SEMIVRAKH_SENDER_PHASE);
 }
 
-static uint32_t held(void) {
-    return number_at(receiver + SEMIVRAKH_RECEIVER_COUNT_AT, 2);
+static size_t held(void) {
+    return receiver_says(SEMIVRAKH_RECEIVER_HELD);
 }
 
-uint32_t blocks_of(size_t length) {
-    return (uint32_t)((length + SEMIVRAKH_BLOCK_BYTES - 1) / SEMIVRAKH_BLOCK_BYTES);
+static size_t blocks_of(size_t length) {
+    return (length + SEMIVRAKH_BLOCK_BYTES - 1) / SEMIVRAKH_BLOCK_BYTES;
 }
 
-uint32_t blocks_left(void) {
-    uint32_t known = phase() == SEMIVRAKH_SENDING ? number_at(sender + SEMIVRAKH_SENDER_KNOWN_AT, 2) : 0;
-    return blocks_of(length_of(sender)) - known;
+size_t blocks_left(void) {
+    return sender_says(SEMIVRAKH_SENDER_BLOCKS) - sender_says(SEMIVRAKH_SENDER_KNOWN);
 }
 
 bool under_way(void) {
     return phase() == SEMIVRAKH_OPENING || phase() == SEMIVRAKH_SENDING;
 }
 
-static const struct sound *sound_of(uint32_t session) {
+static const struct sound *sound_of(size_t session) {
     for (unsigned i = sound_count; i > 0; i--) {
         if (sounds[i - 1].session == session) return &sounds[i - 1];
     }
-    fail("an end has session %" PRIu32 ", under which no sound was begun", session);
+    fail("an end has session %zu, under which no sound was begun", session);
 }
 
 /* What must hold at every moment. */
 
 static void check_held_bytes(void) {
-    if (session_of(receiver) == 0) {
-        if (held() != 0 || length_of(receiver) != 0) fail("the receiver has no session, and holds something");
+    size_t session = receiver_says(SEMIVRAKH_RECEIVER_SESSION), length = receiver_says(SEMIVRAKH_RECEIVER_LENGTH);
+    bool whole = receiver_says(SEMIVRAKH_RECEIVER_WHOLE);
+    if (session == 0) {
+        if (held() != 0 || length != 0 || whole) fail("the receiver has no session, and holds something");
         return;
     }
-    const struct sound *sound = sound_of(session_of(receiver));
-    if (length_of(receiver) != sound->length) fail("the receiver has another length than the sound of its session");
+    const struct sound *sound = sound_of(session);
+    if (length != sound->length) fail("the receiver has another length than the sound of its session");
     if (held() > blocks_of(sound->length)) fail("the receiver counts more blocks than there are");
-    size_t bytes = (size_t)held() * SEMIVRAKH_BLOCK_BYTES;
+    size_t bytes = held() * SEMIVRAKH_BLOCK_BYTES;
     if (bytes > sound->length) bytes = sound->length;
+    if (whole != (bytes == sound->length)) fail("the receiver is wrong about having the whole sound");
     if (bytes > buffer_length) fail("the receiver counts bytes that have no place in its buffer");
     if (memcmp(buffer, sound->bytes, bytes) != 0) fail("the bytes counted as held aren't the front of the sound");
 }
 
 static void check_senders_end(void) {
     if (phase() == SEMIVRAKH_IDLE) return;
-    const struct sound *sound = sound_of(session_of(sender));
-    if (length_of(sender) != sound->length) fail("the sender has another length than the sound of its session");
+    size_t session = sender_says(SEMIVRAKH_SENDER_SESSION), blocks = sender_says(SEMIVRAKH_SENDER_BLOCKS);
+    const struct sound *sound = sound_of(session);
+    if (sender_says(SEMIVRAKH_SENDER_LENGTH) != sound->length || blocks != blocks_of(sound->length)) {
+        fail("the sender has another length than the sound of its session");
+    }
     if (phase() == SEMIVRAKH_DONE) {
-        bool whole = session_of(receiver) == session_of(sender) && held() == blocks_of(sound->length);
+        bool whole = receiver_says(SEMIVRAKH_RECEIVER_SESSION) == session && receiver_says(SEMIVRAKH_RECEIVER_WHOLE);
         if (!whole) fail("the sender is done, and the receiver doesn't hold the sound");
+        if (blocks_left() != 0) fail("the sender is done, and doesn't know of all blocks");
     }
     if (phase() == SEMIVRAKH_REFUSED_TOO_LONG && sound->length <= buffer_length) {
         fail("the sender is refused a sound that has room");
@@ -121,7 +127,7 @@ void begin(const struct sound *sound) {
         counted.no_session_left++;
     } else if (no != 0) {
         fail("beginning was refused with %d", no);
-    } else if (session_of(sender) != sound->session || phase() != SEMIVRAKH_OPENING) {
+    } else if (sender_says(SEMIVRAKH_SENDER_SESSION) != sound->session || phase() != SEMIVRAKH_OPENING) {
         fail("beginning gives another session or phase");
     }
     check_moment();
@@ -132,7 +138,7 @@ size_t send_frame(uint8_t *frame, size_t room, size_t sound_length, uint8_t due)
     size_t length = 0;
     memcpy(before, sender, SENDER);
     memcpy(frame_before, frame, FRAME);
-    const struct sound *sound = sound_of(session_of(sender));
+    const struct sound *sound = sound_of(sender_says(SEMIVRAKH_SENDER_SESSION));
     uint8_t no = semivrakh_sender_send(sender, SENDER, sound->bytes, sound_length, frame, room, &length);
     if (no != due) fail("sending answers %d, and %d was due", no, due);
     check_unchanged(sender, before, SENDER, "the sender's record, in sending,");
@@ -155,12 +161,12 @@ uint8_t sender_hears(const uint8_t *frame, size_t length) {
 }
 
 /* Of the buffer, a placed block may change, and nothing else. */
-static void check_buffer(const uint8_t *before, uint32_t held_before, bool placed) {
-    size_t from = 0, to = 0;
+static void check_buffer(const uint8_t *before, size_t held_before, bool placed) {
+    size_t from = 0, to = 0, end = receiver_says(SEMIVRAKH_RECEIVER_LENGTH);
     if (placed) {
-        from = (size_t)held_before * SEMIVRAKH_BLOCK_BYTES;
+        from = held_before * SEMIVRAKH_BLOCK_BYTES;
         to = from + SEMIVRAKH_BLOCK_BYTES;
-        if (to > length_of(receiver)) to = length_of(receiver);
+        if (to > end) to = end;
     }
     check_unchanged(buffer, before, from, "the buffer, before the block that was placed,");
     size_t rest = buffer_length + MARGIN - to;
@@ -171,14 +177,15 @@ uint8_t receiver_hears(const uint8_t *frame, size_t length, uint8_t answer[ANSWE
                        size_t *answer_length) {
     static uint8_t buffer_before[SOUND + MARGIN];
     uint8_t before[RECEIVER], answer_before[ANSWER];
-    uint32_t session_before = session_of(receiver), held_before = held();
+    size_t session_before = receiver_says(SEMIVRAKH_RECEIVER_SESSION), held_before = held();
     memcpy(before, receiver, RECEIVER);
     memcpy(buffer_before, buffer, buffer_length + MARGIN);
     memcpy(answer_before, answer, ANSWER);
     *answer_length = 0;
     uint8_t no = semivrakh_receiver_hear(receiver, RECEIVER, frame, length, buffer, buffer_length, answer, room,
                                          answer_length);
-    bool placed = no == 0 && session_of(receiver) == session_before && held() == held_before + 1;
+    bool same_session = receiver_says(SEMIVRAKH_RECEIVER_SESSION) == session_before;
+    bool placed = no == 0 && same_session && held() == held_before + 1;
     check_buffer(buffer_before, held_before, placed);
     if (no != 0) {
         check_unchanged(receiver, before, RECEIVER, "a receiver that refused a frame");
@@ -198,7 +205,7 @@ uint8_t receiver_hears(const uint8_t *frame, size_t length, uint8_t answer[ANSWE
 static void undisturbed_round(void) {
     uint8_t frame[FRAME] = {0}, answer[ANSWER] = {0};
     size_t answer_length;
-    size_t length = send_frame(frame, FRAME, length_of(sender), 0);
+    size_t length = send_frame(frame, FRAME, sender_says(SEMIVRAKH_SENDER_LENGTH), 0);
     uint8_t no = receiver_hears(frame, length, answer, ANSWER, &answer_length);
     if (no != 0) fail("in an undisturbed round the receiver refuses with %d", no);
     no = sender_hears(answer, answer_length);
@@ -206,15 +213,16 @@ static void undisturbed_round(void) {
     counted.undisturbed_rounds++;
 }
 
-uint32_t finish_undisturbed(void) {
-    uint32_t most = blocks_left() + 1, rounds = 0;
+size_t finish_undisturbed(void) {
+    size_t most = blocks_left() + 1, rounds = 0;
     while (under_way()) {
-        if (rounds == most) fail("%" PRIu32 " undisturbed rounds were not enough", most);
+        if (rounds == most) fail("%zu undisturbed rounds were not enough", most);
         undisturbed_round();
         rounds++;
     }
-    uint8_t due = length_of(sender) <= buffer_length ? SEMIVRAKH_DONE : SEMIVRAKH_REFUSED_TOO_LONG;
-    if (phase() != due) fail("undisturbed rounds end in phase %d, and %d was due", phase(), due);
+    bool fits = sender_says(SEMIVRAKH_SENDER_LENGTH) <= buffer_length;
+    size_t due = fits ? SEMIVRAKH_DONE : SEMIVRAKH_REFUSED_TOO_LONG;
+    if (phase() != due) fail("undisturbed rounds end in phase %zu, and %zu was due", phase(), due);
     return rounds;
 }
 
@@ -233,8 +241,8 @@ void probe(void) {
 
 const struct sound *new_sound(size_t length) {
     struct sound *sound = &sounds[sound_count++];
-    uint32_t last = session_of(sender);
-    sound->session = last == UINT32_MAX ? 0 : last + 1;
+    size_t last = sender_says(SEMIVRAKH_SENDER_SESSION);
+    sound->session = last == UINT32_MAX ? 0 : (uint32_t)last + 1;
     sound->length = length;
     sound->bytes = malloc(length + 1);
     if (sound->bytes == NULL) fail("there is no memory for a sound");

@@ -34,13 +34,11 @@ extern unsigned sound_count;
 
 _Noreturn void fail(const char *format, ...);
 
-uint32_t number_at(const uint8_t *bytes, int count);
-uint32_t session_of(const uint8_t *record);
-uint32_t length_of(const uint8_t *record);
-uint32_t blocks_of(size_t length);
-uint8_t phase(void);
+/* A number of the sender's status, by the header's index. */
+size_t sender_says(int index);
+size_t phase(void);
 /* Blocks that the sender doesn't know to be held. */
-uint32_t blocks_left(void);
+size_t blocks_left(void);
 bool under_way(void);
 
 /* A fresh pair; or one as it stands near the last session, after an empty sound. */
@@ -58,7 +56,7 @@ uint8_t sender_hears(const uint8_t *frame, size_t length);
 uint8_t receiver_hears(const uint8_t *frame, size_t length, uint8_t answer[ANSWER], size_t room, size_t *answer_length);
 
 /* Undisturbed rounds to the transfer's end, no more than may be; hands back how many. */
-uint32_t finish_undisturbed(void);
+size_t finish_undisturbed(void);
 /* The same on a copy, so that the transfer goes on as it stood. */
 void probe(void);
 

@@ -194,3 +194,25 @@ void write_block_heard(bool other) {
     uint32_t number = random_once_in(4) || state.progress == blocks() ? choose_below(blocks()) : state.progress;
     write_block(session, number, block_bytes(number));
 }
+
+/* Plans what a status answers in `lent` room, where `needed` is enough. */
+static void plan_status(uint8_t no, size_t lent, size_t needed) {
+    if (no == SEMIVRAKH_OUT_OF_RULE) plan_number(SEMIVRAKH_OUT_OF_RULE);
+    else plan_number(lent < needed ? SEMIVRAKH_NO_ROOM : 0);
+}
+
+void ask_sender(struct run sender, uint8_t no) {
+    size_t lent = enough_or_not(SEMIVRAKH_SENDER_NUMBERS);
+    plan_status(no, lent, SEMIVRAKH_SENDER_NUMBERS);
+    compare_sender_status(sender, room(lent));
+}
+
+void ask_receiver(struct run receiver, uint8_t no) {
+    size_t lent = enough_or_not(SEMIVRAKH_RECEIVER_NUMBERS);
+    plan_status(no, lent, SEMIVRAKH_RECEIVER_NUMBERS);
+    if (compare_receiver_status(receiver, room(lent)) != 0) return;
+    const size_t *said = after(1);
+    if (said[SEMIVRAKH_RECEIVER_WHOLE] != 0 && said[SEMIVRAKH_RECEIVER_HELD] != said[SEMIVRAKH_RECEIVER_BLOCKS]) {
+        differ("a receiver says that it is whole, and doesn't hold all blocks");
+    }
+}

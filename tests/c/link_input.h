@@ -74,4 +74,9 @@ void write_possible_answer(uint32_t session);
 void write_opening_heard(bool other);
 void write_block_heard(bool other);
 
+/* Compare what a record says of itself, in too little room, just enough, or more. Another call has answered `no` on the
+ * same bytes: they are out of rule for both, or for neither. */
+void ask_sender(struct run sender, uint8_t no);
+void ask_receiver(struct run receiver, uint8_t no);
+
 #endif

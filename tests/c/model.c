@@ -1,4 +1,6 @@
 /* The model's rules, and what all its parts share. */
+#include <string.h>
+
 #include "model.h"
 
 struct model_rules model_rules = {
@@ -51,4 +53,10 @@ void model_write_number(uint8_t *bytes, size_t count, uint32_t number) {
 
 size_t model_blocks(size_t sound_length) {
     return sound_length / 64 + (sound_length % 64 != 0);
+}
+
+uint8_t model_answer(size_t *answer, size_t answer_room, const size_t *numbers, size_t count) {
+    if (answer_room < count) return model_no(MODEL_NO_ROOM);
+    memcpy(answer, numbers, count * sizeof *numbers);
+    return 0;
 }

@@ -80,6 +80,8 @@ void model_write_number(uint8_t *bytes, size_t count, uint32_t number);
 
 uint8_t model_no(enum model_reason reason);
 size_t model_blocks(size_t sound_length);
+/* Writes the numbers to the front of an answer, or says no if they have no room there. */
+uint8_t model_answer(size_t *answer, size_t answer_room, const size_t *numbers, size_t count);
 
 uint8_t model_cipher_make(uint8_t *cipher, size_t cipher_length,
                           const uint8_t *key, size_t key_length,
@@ -91,6 +93,11 @@ uint8_t model_pack_open(const uint8_t *file, size_t file_length,
                         const uint8_t *ring, size_t ring_length,
                         int16_t *samples, size_t sample_room,
                         size_t *answer, size_t answer_room);
+uint8_t model_pack_survey(const uint8_t *file, size_t file_length,
+                          size_t *answer, size_t answer_room);
+uint8_t model_pack_loops(const uint8_t *file, size_t file_length,
+                         uint32_t *loops, size_t loop_room,
+                         size_t *loop_numbers);
 uint8_t model_pack_seal(const uint8_t *name, size_t name_length,
                         const uint8_t *ring, size_t ring_length,
                         uint8_t key_number,
@@ -110,6 +117,8 @@ uint8_t model_sender_send(const uint8_t *sender, size_t sender_length,
                           size_t *frame_length);
 uint8_t model_sender_hear(uint8_t *sender, size_t sender_length,
                           const uint8_t *frame, size_t frame_length);
+uint8_t model_sender_status(const uint8_t *sender, size_t sender_length,
+                            size_t *answer, size_t answer_room);
 uint8_t model_receiver_make(uint8_t *receiver, size_t receiver_length,
                             const uint8_t *key, size_t key_length,
                             const uint8_t *pair, size_t pair_length);
@@ -118,5 +127,7 @@ uint8_t model_receiver_hear(uint8_t *receiver, size_t receiver_length,
                             uint8_t *sound, size_t sound_length,
                             uint8_t *answer, size_t answer_room,
                             size_t *answer_length);
+uint8_t model_receiver_status(const uint8_t *receiver, size_t receiver_length,
+                              size_t *answer, size_t answer_room);
 
 #endif

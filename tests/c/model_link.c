@@ -195,6 +195,21 @@ uint8_t model_sender_hear(uint8_t *sender, size_t sender_length, const uint8_t *
     return 0;
 }
 
+uint8_t model_sender_status(const uint8_t *sender, size_t sender_length, size_t *answer, size_t answer_room) {
+    struct link link;
+    if (!read_sender(&link, sender, sender_length)) return model_no(MODEL_OUT_OF_RULE);
+    size_t blocks = model_blocks(link.length);
+    const size_t numbers[SEMIVRAKH_SENDER_NUMBERS] = {
+        [SEMIVRAKH_SENDER_PHASE] = link.phase,
+        [SEMIVRAKH_SENDER_SESSION] = link.session,
+        [SEMIVRAKH_SENDER_LENGTH] = link.length,
+        /* The record counts only while sending, and done says that all are held. */
+        [SEMIVRAKH_SENDER_KNOWN] = link.phase == SEMIVRAKH_DONE ? blocks : link.progress,
+        [SEMIVRAKH_SENDER_BLOCKS] = blocks,
+    };
+    return model_answer(answer, answer_room, numbers, SEMIVRAKH_SENDER_NUMBERS);
+}
+
 static bool read_question(struct heard *heard, const uint8_t *frame, size_t length) {
     if (length == 0) return false;
     heard->kind = frame[0];
@@ -266,4 +281,18 @@ uint8_t model_receiver_hear(uint8_t *receiver, size_t receiver_length,
     write_receiver(receiver, &link);
     *answer_length = answer_holds(answer, &link);
     return 0;
+}
+
+uint8_t model_receiver_status(const uint8_t *receiver, size_t receiver_length, size_t *answer, size_t answer_room) {
+    struct link link;
+    if (!read_receiver(&link, receiver, receiver_length)) return model_no(MODEL_OUT_OF_RULE);
+    size_t blocks = model_blocks(link.length);
+    const size_t numbers[SEMIVRAKH_RECEIVER_NUMBERS] = {
+        [SEMIVRAKH_RECEIVER_SESSION] = link.session,
+        [SEMIVRAKH_RECEIVER_LENGTH] = link.length,
+        [SEMIVRAKH_RECEIVER_HELD] = link.progress,
+        [SEMIVRAKH_RECEIVER_BLOCKS] = blocks,
+        [SEMIVRAKH_RECEIVER_WHOLE] = link.session != 0 && link.progress == blocks,
+    };
+    return model_answer(answer, answer_room, numbers, SEMIVRAKH_RECEIVER_NUMBERS);
 }

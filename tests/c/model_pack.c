@@ -59,10 +59,10 @@ static void read_key(struct reader *reader, size_t *key_number, size_t *value_at
     if (*key_number >= KEYS) refuse(reader, MODEL_BAD_KEY_NUMBER);
 }
 
-static const uint8_t *read_samples(struct reader *reader, size_t *count) {
+static void read_samples(struct reader *reader, size_t *count, const uint8_t **enciphered) {
     *count = take_count(reader, 4);
     if (*count > SEMIVRAKH_SAMPLES_MOST) refuse(reader, MODEL_MANY_SAMPLES);
-    return take(reader, 2 * *count);
+    *enciphered = take(reader, 2 * *count);
 }
 
 static void read_loops(struct reader *reader, size_t samples, size_t *count, size_t *at) {
@@ -76,6 +76,45 @@ static void read_loops(struct reader *reader, size_t samples, size_t *count, siz
             refuse(reader, MODEL_BAD_LOOP);
         }
     }
+}
+
+/* What a file says of itself: the seven numbers by the header's index, and where its samples stand. */
+struct pack {
+    size_t numbers[SEMIVRAKH_OPENED_NUMBERS];
+    const uint8_t *enciphered;
+};
+
+/* The whole file. Answers the first thing wrong with it, or 0. */
+static uint8_t read_pack(struct pack *pack, const uint8_t *file, size_t file_length) {
+    struct reader reader = {.file = file, .length = file_length};
+    size_t *numbers = pack->numbers, *samples = &numbers[SEMIVRAKH_OPENED_SAMPLES];
+    read_name(&reader, &numbers[SEMIVRAKH_OPENED_NAME_LENGTH], &numbers[SEMIVRAKH_OPENED_NAME_AT]);
+    read_key(&reader, &numbers[SEMIVRAKH_OPENED_KEY], &numbers[SEMIVRAKH_OPENED_VALUE_AT]);
+    read_samples(&reader, samples, &pack->enciphered);
+    read_loops(&reader, *samples, &numbers[SEMIVRAKH_OPENED_LOOPS], &numbers[SEMIVRAKH_OPENED_LOOPS_AT]);
+    if (reader.at != file_length) refuse(&reader, MODEL_MORE_BYTES);
+    return reader.refusal;
+}
+
+uint8_t model_pack_survey(const uint8_t *file, size_t file_length, size_t *answer, size_t answer_room) {
+    struct pack pack;
+    uint8_t no = read_pack(&pack, file, file_length);
+    if (no != 0) return no;
+    return model_answer(answer, answer_room, pack.numbers, SEMIVRAKH_OPENED_NUMBERS);
+}
+
+uint8_t model_pack_loops(const uint8_t *file, size_t file_length,
+                         uint32_t *loops, size_t loop_room,
+                         size_t *loop_numbers) {
+    struct pack pack;
+    uint8_t no = read_pack(&pack, file, file_length);
+    if (no != 0) return no;
+    size_t count = 2 * pack.numbers[SEMIVRAKH_OPENED_LOOPS];
+    if (loop_room < count) return model_no(MODEL_NO_ROOM);
+    const uint8_t *bytes = file + pack.numbers[SEMIVRAKH_OPENED_LOOPS_AT];
+    for (size_t i = 0; i < count; i++) loops[i] = model_number_at(bytes + 4 * i, 4);
+    *loop_numbers = count;
+    return 0;
 }
 
 static void start_cipher(struct model_trivium *trivium, const uint8_t *ring, size_t key_number, const uint8_t *value) {
@@ -93,31 +132,22 @@ uint8_t model_pack_open(const uint8_t *file, size_t file_length,
                         const uint8_t *ring, size_t ring_length,
                         int16_t *samples, size_t sample_room,
                         size_t *answer, size_t answer_room) {
-    struct reader reader = {.file = file, .length = file_length};
-    size_t name_length = 0, name_at = 0, key_number = 0, value_at = 0, count = 0, loops = 0, loops_at = 0;
+    struct pack pack;
     if (ring_length != RING_BYTES) return model_no(MODEL_BAD_KEY);
-    read_name(&reader, &name_length, &name_at);
-    read_key(&reader, &key_number, &value_at);
-    const uint8_t *enciphered = read_samples(&reader, &count);
-    read_loops(&reader, count, &loops, &loops_at);
-    if (reader.at != file_length) refuse(&reader, MODEL_MORE_BYTES);
-    if (sample_room < count || answer_room < SEMIVRAKH_OPENED_NUMBERS) refuse(&reader, MODEL_NO_ROOM);
-    if (reader.refusal != 0) return reader.refusal;
+    uint8_t no = read_pack(&pack, file, file_length);
+    if (no != 0) return no;
+    size_t count = pack.numbers[SEMIVRAKH_OPENED_SAMPLES];
+    if (sample_room < count) return model_no(MODEL_NO_ROOM);
+    no = model_answer(answer, answer_room, pack.numbers, SEMIVRAKH_OPENED_NUMBERS);
+    if (no != 0) return no;
 
     struct model_trivium trivium;
-    start_cipher(&trivium, ring, key_number, file + value_at);
+    start_cipher(&trivium, ring, pack.numbers[SEMIVRAKH_OPENED_KEY], file + pack.numbers[SEMIVRAKH_OPENED_VALUE_AT]);
     for (size_t i = 0; i < count; i++) {
-        unsigned high = enciphered[2 * i] ^ model_trivium_next_byte(&trivium);
-        unsigned low = enciphered[2 * i + 1] ^ model_trivium_next_byte(&trivium);
+        unsigned high = pack.enciphered[2 * i] ^ model_trivium_next_byte(&trivium);
+        unsigned low = pack.enciphered[2 * i + 1] ^ model_trivium_next_byte(&trivium);
         samples[i] = signed_word(high, low);
     }
-    answer[SEMIVRAKH_OPENED_SAMPLES] = count;
-    answer[SEMIVRAKH_OPENED_KEY] = key_number;
-    answer[SEMIVRAKH_OPENED_LOOPS] = loops;
-    answer[SEMIVRAKH_OPENED_NAME_LENGTH] = name_length;
-    answer[SEMIVRAKH_OPENED_NAME_AT] = name_at;
-    answer[SEMIVRAKH_OPENED_VALUE_AT] = value_at;
-    answer[SEMIVRAKH_OPENED_LOOPS_AT] = loops_at;
     return 0;
 }
 

@@ -1,0 +1,59 @@
+/*
+ * semivrakh_words.h: the numbers for no in words, and what to do about each. Plain C over no library: nothing here is
+ * proved, and nothing rests on it.
+ *
+ *     if (no != SEMIVRAKH_OK) fprintf(stderr, "refused %d: %s; %s\n", no, semivrakh_words(no), semivrakh_advice(no));
+ *
+ * The table is the one place of these words. A row stands in one line, so that scripts can read it too.
+ */
+#ifndef SEMIVRAKH_WORDS_H
+#define SEMIVRAKH_WORDS_H
+
+/* ROW(number, words, advice) */
+#define SEMIVRAKH_WORDS_TABLE(ROW) \
+    ROW(0, "not refused", "go on") \
+    ROW(1, "a key is not 10 bytes long, or a ring of keys not 40", "lend the whole key or ring, and no more") \
+    ROW(2, "an initial value is not 10 bytes long, or a pair name not 6", "lend all of it, and no more") \
+    ROW(3, "a cipher record is not 48 bytes long", "lend the bytes that making wrote, all 48 of them") \
+    ROW(10, "the file ends inside a section", "get the file again: it was cut short") \
+    ROW(11, "the name is over 32 bytes long", "opening: this is no pack, or a damaged one; sealing: shorten the name") \
+    ROW(12, "the name has a byte that is not printable ASCII", "opening: the file is damaged; sealing: use bytes 32 to 126 only") \
+    ROW(13, "the key section's count is not 11", "this is no pack, or a damaged one") \
+    ROW(14, "the key number is over 3", "opening: the file is damaged; sealing: name one of the keys 0 to 3") \
+    ROW(15, "there are more than 16,384 samples", "opening: the file is damaged; sealing: cut the sound") \
+    ROW(16, "there are more than 8 loops, or a loop has no end", "opening: the file is damaged; sealing: lend two numbers a loop, 16 at most") \
+    ROW(17, "a loop is empty or ends after the samples", "opening: the file is damaged; sealing: mend the loop") \
+    ROW(18, "there are bytes after the loops", "get the file again: it is damaged, or something was added to it") \
+    ROW(19, "a lent buffer is too short", "lend more room and call again") \
+    ROW(20, "no session number is left", "pair both ends anew, under another pair name") \
+    ROW(21, "the sound is over 32,768 bytes long", "send it as two sounds, or a shorter one") \
+    ROW(22, "no transfer is under way", "a sender that sends: begin a sound first; one that hears: an answer came late, ignore it") \
+    ROW(23, "the lent sound or buffer is not of the transfer's length", "lend the same sound, or the same buffer, as in every call before") \
+    ROW(24, "these bytes are no frame for this end", "ignore them: a frame is lent whole and alone, as the other end wrote it") \
+    ROW(25, "the frame is of another session", "ignore it: it came late; if every opening is refused so, the ends are no pair any more: pair both anew") \
+    ROW(26, "the frame says what can't be", "ignore it; if it comes again, an end was set back or is another: pair both anew") \
+    ROW(27, "these bytes are no record of a link end, or one out of rule", "lend the bytes that the last call left; if they are lost, pair both ends anew")
+
+/* The refusal in words. A number that no call answers is called so. */
+static inline const char *semivrakh_words(unsigned number)
+{
+#define SEMIVRAKH_WORDS_ROW(row, words, advice) case row: return words;
+    switch (number) {
+        SEMIVRAKH_WORDS_TABLE(SEMIVRAKH_WORDS_ROW)
+    default: return "a number that no call answers";
+    }
+#undef SEMIVRAKH_WORDS_ROW
+}
+
+/* What to do about it. */
+static inline const char *semivrakh_advice(unsigned number)
+{
+#define SEMIVRAKH_WORDS_ROW(row, words, advice) case row: return advice;
+    switch (number) {
+        SEMIVRAKH_WORDS_TABLE(SEMIVRAKH_WORDS_ROW)
+    default: return "see that library and header have the same version";
+    }
+#undef SEMIVRAKH_WORDS_ROW
+}
+
+#endif

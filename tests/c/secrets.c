@@ -1,0 +1,241 @@
+/*
+ * Looks for branches and addresses that depend on a key or on a sound. Under valgrind's memcheck, secret bytes are
+ * marked as never written. Memcheck follows such bytes through every instruction, and reports each conditional jump and
+ * each address that is made of them. What a call says in public (its number, lengths, the heads of files and frames, a
+ * record's fields) must not be made of them either; what it enciphers must be, or else nothing was followed.
+ *
+ * secrets [--broken (branch | address | answer)]: prints one line, and before it whatever it found. Exit status 1 if it
+ * found anything.
+ */
+#include <stdbool.h>
+#include <stdio.h>
+#include <string.h>
+#include <valgrind/memcheck.h>
+
+#include "random.h"
+#include "semivrakh.h"
+
+enum { PAIR_AT = 10, HEAD_BYTES = 8, STREAM_MOST = 2000, NAME_BYTES = 5, KEY_NUMBER = 2 };
+
+/* What is secret in this round of calls. */
+static bool keys_hidden, sounds_hidden;
+static unsigned calls, faults, errors_before;
+
+static const char *hidden_words(void) {
+    return keys_hidden ? "a key" : "a sound";
+}
+
+static void fault(const char *call, const char *what) {
+    faults++;
+    printf("FAILED: %s: %s %s\n", call, what, hidden_words());
+}
+
+/* Bytes of a new key or sound, marked if they are secret now. */
+static void new_bytes(bool hidden, void *bytes, size_t length) {
+    random_fill(bytes, length);
+    if (hidden) VALGRIND_MAKE_MEM_UNDEFINED(bytes, length);
+}
+
+static void new_key(uint8_t *key, size_t length) {
+    new_bytes(keys_hidden, key, length);
+}
+
+static void new_sound(void *sound, size_t length) {
+    new_bytes(sounds_hidden, sound, length);
+}
+
+/* Looks at what memcheck reported since the last look. */
+static void look(const char *call) {
+    unsigned errors = VALGRIND_COUNT_ERRORS;
+    if (errors != errors_before) fault(call, "a jump or an address depends on");
+    errors_before = errors;
+}
+
+static void public_bytes(const char *call, const void *bytes, size_t length) {
+    if (length > 0 && VALGRIND_CHECK_MEM_IS_DEFINED(bytes, length) != 0) fault(call, "what it says depends on");
+    errors_before = VALGRIND_COUNT_ERRORS;
+}
+
+/* Each of these bytes is made of a secret. */
+static void secret_bytes(const char *call, const void *bytes, size_t length) {
+    static uint8_t marks[2 * SEMIVRAKH_SAMPLES_MOST];
+    (void)VALGRIND_GET_VBITS(bytes, marks, length);
+    if (memchr(marks, 0, length) != NULL) fault(call, "a byte that should does not depend on");
+}
+
+/* After each call: its number is public, and the one expected. */
+static void called(const char *call, uint8_t expected, uint8_t no) {
+    calls++;
+    look(call);
+    public_bytes(call, &no, sizeof no);
+    VALGRIND_MAKE_MEM_DEFINED(&no, sizeof no);
+    if (no == expected) return;
+    faults++;
+    printf("FAILED: %s: %d, and not %d, is the answer\n", call, no, expected);
+}
+
+#define CALL(expected, function, ...) called(#function, expected, function(__VA_ARGS__))
+
+/* The cipher */
+
+static void cipher(size_t length) {
+    uint8_t key[SEMIVRAKH_KEY_BYTES], value[SEMIVRAKH_VALUE_BYTES], record[SEMIVRAKH_CIPHER_BYTES];
+    static uint8_t input[STREAM_MOST], output[STREAM_MOST];
+    new_key(key, sizeof key);
+    random_fill(value, sizeof value);
+    new_sound(input, length);
+    CALL(1, semivrakh_cipher_make, record, sizeof record, key, 9, value, sizeof value);
+    CALL(0, semivrakh_cipher_make, record, sizeof record, key, sizeof key, value, sizeof value);
+    if (length > 0) {
+        CALL(19, semivrakh_cipher_encipher, record, sizeof record, input, length, output, length - 1);
+    }
+    CALL(0, semivrakh_cipher_encipher, record, sizeof record, input, length, output, length);
+    secret_bytes("semivrakh_cipher_encipher", output, length);
+    if (!keys_hidden) public_bytes("semivrakh_cipher_encipher", record, sizeof record);
+}
+
+/* Packs */
+
+/* Of a file, all but its samples can be read by anybody. */
+static void look_at_file(const uint8_t *file, size_t length, size_t samples) {
+    size_t body = 1 + NAME_BYTES + 2 + SEMIVRAKH_VALUE_BYTES + 4, behind = body + 2 * samples;
+    public_bytes("semivrakh_pack_seal", file, body);
+    secret_bytes("semivrakh_pack_seal", file + body, 2 * samples);
+    public_bytes("semivrakh_pack_seal", file + behind, length - behind);
+}
+
+/* What a file says of itself is public, and no key is lent for it. */
+static void survey(const uint8_t *file, size_t length) {
+    size_t answer[SEMIVRAKH_OPENED_NUMBERS], loop_numbers = 0;
+    uint32_t loops[2 * SEMIVRAKH_LOOPS_MOST];
+    CALL(10, semivrakh_pack_survey, file, length - 1, answer, SEMIVRAKH_OPENED_NUMBERS);
+    CALL(0, semivrakh_pack_survey, file, length, answer, SEMIVRAKH_OPENED_NUMBERS);
+    public_bytes("semivrakh_pack_survey", answer, sizeof answer);
+    CALL(10, semivrakh_pack_loops, file, length - 1, loops, 2 * SEMIVRAKH_LOOPS_MOST, &loop_numbers);
+    CALL(0, semivrakh_pack_loops, file, length, loops, 2 * SEMIVRAKH_LOOPS_MOST, &loop_numbers);
+    public_bytes("semivrakh_pack_loops", loops, loop_numbers * sizeof *loops);
+}
+
+static void pack(size_t samples) {
+    static int16_t sound[SEMIVRAKH_SAMPLES_MOST], opened[SEMIVRAKH_SAMPLES_MOST];
+    static uint8_t file[SEMIVRAKH_PACK_MOST];
+    uint8_t ring[SEMIVRAKH_RING_BYTES], value[SEMIVRAKH_VALUE_BYTES];
+    const uint8_t *name = (const uint8_t *)"Choir";
+    const uint32_t loops[] = {0, (uint32_t)samples, 0, 1};
+    size_t loop_numbers = samples > 0 ? 4 : 0, length = 0, answer[SEMIVRAKH_OPENED_NUMBERS];
+    new_key(ring, sizeof ring);
+    random_fill(value, sizeof value);
+    new_sound(sound, 2 * samples);
+    CALL(19, semivrakh_pack_seal, name, NAME_BYTES, ring, sizeof ring, KEY_NUMBER, value, sizeof value, sound, samples,
+         loops, loop_numbers, file, 20, &length);
+    CALL(0, semivrakh_pack_seal, name, NAME_BYTES, ring, sizeof ring, KEY_NUMBER, value, sizeof value, sound, samples,
+         loops, loop_numbers, file, sizeof file, &length);
+    public_bytes("semivrakh_pack_seal", &length, sizeof length);
+    look_at_file(file, length, samples);
+    CALL(10, semivrakh_pack_open, file, length - 1, ring, sizeof ring, opened, samples, answer,
+         SEMIVRAKH_OPENED_NUMBERS);
+    CALL(0, semivrakh_pack_open, file, length, ring, sizeof ring, opened, samples, answer, SEMIVRAKH_OPENED_NUMBERS);
+    public_bytes("semivrakh_pack_open", answer, sizeof answer);
+    secret_bytes("semivrakh_pack_open", opened, 2 * samples);
+    survey(file, length);
+}
+
+/* The link */
+
+struct ends {
+    uint8_t sender[SEMIVRAKH_SENDER_BYTES], receiver[SEMIVRAKH_RECEIVER_BYTES];
+    uint8_t room[STREAM_MOST];
+    size_t room_length;
+};
+
+/* Of a record, all but the key can be read by anybody, and what its end says of it is public. */
+static void look_at_records(const struct ends *ends) {
+    size_t sender[SEMIVRAKH_SENDER_NUMBERS], receiver[SEMIVRAKH_RECEIVER_NUMBERS];
+    CALL(0, semivrakh_sender_status, ends->sender, sizeof ends->sender, sender, SEMIVRAKH_SENDER_NUMBERS);
+    public_bytes("semivrakh_sender_status", sender, sizeof sender);
+    CALL(0, semivrakh_receiver_status, ends->receiver, sizeof ends->receiver, receiver, SEMIVRAKH_RECEIVER_NUMBERS);
+    public_bytes("semivrakh_receiver_status", receiver, sizeof receiver);
+    public_bytes("a sender's record", ends->sender + PAIR_AT, sizeof ends->sender - PAIR_AT);
+    public_bytes("a receiver's record", ends->receiver + PAIR_AT, sizeof ends->receiver - PAIR_AT);
+}
+
+static void make_ends(struct ends *ends) {
+    uint8_t key[SEMIVRAKH_KEY_BYTES], pair[SEMIVRAKH_PAIR_BYTES];
+    new_key(key, sizeof key);
+    random_fill(pair, sizeof pair);
+    CALL(0, semivrakh_sender_make, ends->sender, sizeof ends->sender, key, sizeof key, pair, sizeof pair);
+    CALL(0, semivrakh_receiver_make, ends->receiver, sizeof ends->receiver, key, sizeof key, pair, sizeof pair);
+    look_at_records(ends);
+}
+
+/* A round, in which the receiver hears the frame twice: the second time it is no news. */
+static void round_of(struct ends *ends, const uint8_t *sound, size_t length) {
+    uint8_t frame[SEMIVRAKH_FRAME_MOST], answer[SEMIVRAKH_ANSWER_MOST];
+    size_t frame_length = 0, answer_length = 0;
+    CALL(0, semivrakh_sender_send, ends->sender, sizeof ends->sender, sound, length, frame, sizeof frame,
+         &frame_length);
+    public_bytes("semivrakh_sender_send", &frame_length, sizeof frame_length);
+    public_bytes("semivrakh_sender_send", frame, HEAD_BYTES);
+    if (frame[0] == 2) secret_bytes("semivrakh_sender_send", frame + HEAD_BYTES, frame_length - HEAD_BYTES);
+    for (int times = 0; times < 2; times++) {
+        CALL(0, semivrakh_receiver_hear, ends->receiver, sizeof ends->receiver, frame, frame_length, ends->room,
+             ends->room_length, answer, sizeof answer, &answer_length);
+        public_bytes("semivrakh_receiver_hear", &answer_length, sizeof answer_length);
+        public_bytes("semivrakh_receiver_hear", answer, answer_length);
+    }
+    CALL(0, semivrakh_sender_hear, ends->sender, sizeof ends->sender, answer, answer_length);
+    look_at_records(ends);
+}
+
+static void transfer(size_t length, size_t room_length) {
+    static uint8_t sound[STREAM_MOST];
+    struct ends ends = {.room_length = room_length};
+    make_ends(&ends);
+    new_sound(sound, length);
+    CALL(0, semivrakh_sender_begin, ends.sender, sizeof ends.sender, sound, length);
+    for (size_t blocks = 0; blocks <= length / SEMIVRAKH_BLOCK_BYTES + 1; blocks++) {
+        if (ends.sender[SEMIVRAKH_SENDER_PHASE_AT] < SEMIVRAKH_DONE) round_of(&ends, sound, length);
+    }
+    if (length <= room_length) secret_bytes("semivrakh_receiver_hear", ends.room, length);
+}
+
+/* All calls, under what is hidden now: lengths at which each loop has no turn, one and many. */
+static void all_calls(void) {
+    for (size_t length = 0; length <= 40; length++) cipher(length);
+    cipher(STREAM_MOST);
+    for (size_t samples = 0; samples <= 20; samples++) pack(samples);
+    pack(SEMIVRAKH_SAMPLES_MOST);
+    for (size_t length = 0; length <= 130; length += 13) transfer(length, length);
+    transfer(65, 64);
+    transfer(1000, STREAM_MOST);
+}
+
+/* What a test of this test does wrong: a loop that takes as long as a key says, a place in a table that a key says, and
+ * an answer that a key says. */
+static void broken(const char *what) {
+    static volatile uint8_t table[256];
+    uint8_t key;
+    new_key(&key, sizeof key);
+    if (strcmp(what, "branch") == 0) {
+        for (uint8_t i = 0; i < key; i++) table[0]++;
+    }
+    if (strcmp(what, "address") == 0) table[key]++;
+    look("a call that is broken on purpose");
+    if (strcmp(what, "answer") == 0) public_bytes("a call that is broken on purpose", &key, sizeof key);
+}
+
+int main(int words, char **word) {
+    if (!RUNNING_ON_VALGRIND) {
+        puts("secrets: run this under valgrind, which does the looking");
+        return 2;
+    }
+    for (int round = 0; round < 2; round++) {
+        keys_hidden = round == 0;
+        sounds_hidden = !keys_hidden;
+        all_calls();
+        if (words == 3 && keys_hidden) broken(word[2]);
+    }
+    if (faults > 0) printf("secrets: %u calls, and %u times something depends on a key or a sound\n", calls, faults);
+    else printf("secrets: %u calls, no branch and no address depends on a key or a sound\n", calls);
+    return faults > 0;
+}
