@@ -1,20 +1,23 @@
 /*
  * What the example programs share: whole files read and written, and how a program ends that can't go on.
- * Exit status: 1 if the library said no, 2 if the words of the command or a file are at fault.
+ * Exit status: 1 if the library said no, 2 if the words of the command or a file are at fault. What is wrong is said on
+ * standard error, so that standard output holds nothing but results.
  */
 #ifndef EXAMPLES_FILES_H
 #define EXAMPLES_FILES_H
 
 #include <errno.h>
 #include <stdarg.h>
+#include <stdbool.h>
 #include <stdint.h>
 #include <stdio.h>
 #include <stdlib.h>
 #include <string.h>
 
 #include "semivrakh.h"
+#include "semivrakh_words.h"
 
-/* Says on standard error what is wrong, and ends the program. */
+/* Says what is wrong, and ends the program. */
 _Noreturn static inline void stop(const char *format, ...)
 {
     va_list words;
@@ -25,40 +28,47 @@ _Noreturn static inline void stop(const char *format, ...)
     exit(2);
 }
 
-static inline const char *words_for(uint8_t no)
+/*
+ * Says in three lines what the library refused, and ends the program: the number in words, then what the program knows
+ * of it, the file and the figures, then what to do.
+ */
+_Noreturn static inline void refused(uint8_t no, const char *format, ...)
 {
-    switch (no) {
-    case SEMIVRAKH_BAD_KEY: return "the ring of keys has not 40 bytes";
-    case SEMIVRAKH_BAD_VALUE: return "the initial value has not 10 bytes";
-    case SEMIVRAKH_CUT_SHORT: return "the file ends inside a section";
-    case SEMIVRAKH_LONG_NAME: return "the name is over 32 bytes";
-    case SEMIVRAKH_BAD_NAME: return "the name has a byte that is not printable ASCII";
-    case SEMIVRAKH_BAD_KEY_COUNT: return "the key section's count is not 11";
-    case SEMIVRAKH_BAD_KEY_NUMBER: return "the key number is over 3";
-    case SEMIVRAKH_MANY_SAMPLES: return "more than 16,384 samples";
-    case SEMIVRAKH_MANY_LOOPS: return "more than 8 loops";
-    case SEMIVRAKH_BAD_LOOP: return "a loop is empty or ends after the samples";
-    case SEMIVRAKH_MORE_BYTES: return "bytes after the loops";
-    default: return "see the numbers for no in semivrakh.h";
-    }
-}
-
-/* Prints the library's number for no, and ends the program. */
-_Noreturn static inline void refused(uint8_t no)
-{
-    printf("refused %d: %s\n", no, words_for(no));
+    fprintf(stderr, "refused %d: %s\n  ", no, semivrakh_words(no));
+    va_list words;
+    va_start(words, format);
+    vfprintf(stderr, format, words);
+    va_end(words);
+    fprintf(stderr, "\n  %s\n", semivrakh_advice(no));
     exit(1);
 }
 
-/* Reads a file from its front, at most `room` bytes, and answers how many there were. */
-static inline size_t read_file(const char *path, uint8_t *bytes, size_t room)
+/* A file read whole, of whatever length: its length is for the library to judge. */
+struct file {
+    const char *path;
+    uint8_t *bytes;
+    size_t length;
+};
+
+enum {
+    FILE_FIRST_ROOM = 1 << 16,
+    FILE_MOST = 1 << 26 /* far more than any of these programs can use; so a file without end comes to an end */
+};
+
+static inline struct file read_file(const char *path)
 {
-    FILE *file = fopen(path, "rb");
-    if (file == NULL) stop("%s cannot be opened: %s", path, strerror(errno));
-    size_t length = fread(bytes, 1, room, file);
-    if (ferror(file)) stop("%s cannot be read: %s", path, strerror(errno));
-    fclose(file);
-    return length;
+    FILE *stream = fopen(path, "rb");
+    if (stream == NULL) stop("%s cannot be opened: %s", path, strerror(errno));
+    struct file file = {path, NULL, 0};
+    for (size_t room = FILE_FIRST_ROOM; file.length <= FILE_MOST && !feof(stream); room *= 2) {
+        file.bytes = realloc(file.bytes, room);
+        if (file.bytes == NULL) stop("there is not enough memory");
+        file.length += fread(file.bytes + file.length, 1, room - file.length, stream);
+        if (ferror(stream)) stop("%s cannot be read: %s", path, strerror(errno));
+    }
+    fclose(stream);
+    if (file.length > FILE_MOST) stop("%s has over %d bytes, the most that is read", path, FILE_MOST);
+    return file;
 }
 
 static inline void write_file(const char *path, const uint8_t *bytes, size_t length)
@@ -69,23 +79,36 @@ static inline void write_file(const char *path, const uint8_t *bytes, size_t len
     if (fclose(file) != 0 || written != length) stop("%s cannot be written: %s", path, strerror(errno));
 }
 
-/* Reads a ring of keys, and one byte more if there is one, so that the library refuses a longer file. */
-enum { RING_ROOM = SEMIVRAKH_RING_BYTES + 1 };
-
-static inline size_t read_ring(const char *path, uint8_t ring[RING_ROOM])
+_Noreturn static inline void refused_ring(uint8_t no, const struct file *ring)
 {
-    return read_file(path, ring, RING_ROOM);
+    refused(no, "%s has %zu bytes, and a ring of keys has %d", ring->path, ring->length, SEMIVRAKH_RING_BYTES);
+}
+
+/* Room for so many things, all zeros. */
+static inline void *room_for(size_t count, size_t size)
+{
+    void *room = calloc(count + 1, size); /* one more, so that nothing at all is room as well */
+    if (room == NULL) stop("there is not enough memory");
+    return room;
+}
+
+/* A number in decimal digits, at most `most`. Answers if the text is one. */
+static inline bool read_number(const char *text, uint32_t most, uint32_t *number)
+{
+    char *end;
+    errno = 0;
+    unsigned long read = strtoul(text, &end, 10);
+    *number = (uint32_t)read;
+    return text[0] >= '0' && text[0] <= '9' && *end == '\0' && errno == 0 && read <= most;
 }
 
 /* A number in decimal digits, from `least` to `most`. */
 static inline uint32_t number_of(const char *text, const char *what, uint32_t least, uint32_t most)
 {
-    char *end;
-    errno = 0;
-    unsigned long number = strtoul(text, &end, 10);
-    if (text[0] < '0' || text[0] > '9' || *end != '\0' || errno != 0 || number < least || number > most)
+    uint32_t number;
+    if (!read_number(text, most, &number) || number < least)
         stop("%s is a number from %lu to %lu, not '%s'", what, (unsigned long)least, (unsigned long)most, text);
-    return (uint32_t)number;
+    return number;
 }
 
 #endif

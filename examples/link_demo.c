@@ -2,14 +2,13 @@
  * Sends sounds over the link, on a line that loses, repeats, delays and reorders frames, and looks at what arrives: a
  * sound that fits, an empty one, and one too long for the receiver. Exit status 0 only if all goes as it should.
  */
-#include <stdbool.h>
-
 #include "files.h"
 
 static const char usage[] =
-    "usage: link_demo [SEED] [FILE]\n"
+    "usage: link_demo [SEED] [FILE] [LOSS]\n"
     "  SEED  a number that decides what the line does, 1 if it is not given\n"
-    "  FILE  the sound to send, its first 32,768 bytes; if it is not given, the program makes one";
+    "  FILE  the sound to send, its first 32,768 bytes; if it is not given, the program makes one\n"
+    "  LOSS  how many of a hundred frames the line loses, 15 if it is not given; with 100 the program gives up";
 
 /* A real pair has a key and a name of its own: ends made afresh under old ones would use their keystream again. */
 static const uint8_t key[] = {'d', 'e', 'm', 'o', ' ', 'k', 'e', 'y', ' ', '0'};
@@ -20,8 +19,10 @@ enum {
     MADE_BYTES = 24601, /* no whole number of blocks: the last one is short */
     SMALL_ROOM = 4096,
     BAG_FRAMES = 32,
+    LOSS_USUAL = 15,
+    REPEATS = 10,   /* of a hundred frames */
     PATIENCE = 6,   /* ticks without news until the sender sends again */
-    GIVE_UP = 1000, /* ticks without news until this program calls the link broken */
+    GIVE_UP = 1000, /* ticks without news until this program calls the line broken */
     REPORTS = 10,   /* lines of progress in a transfer */
     BAR = 30
 };
@@ -45,6 +46,7 @@ struct bag {
 struct line {
     struct bag to_receiver, to_sender;
     uint64_t random;
+    unsigned loss; /* of a hundred frames */
     unsigned long tick, put, lost, repeated, late, refused;
 };
 
@@ -63,7 +65,7 @@ static unsigned long delay(struct line *line)
 static void put_frame(struct line *line, struct bag *bag, const uint8_t *bytes, size_t length)
 {
     unsigned fate = random_below(line, 100);
-    unsigned copies = fate < 15 ? 0 : fate < 25 ? 2 : 1;
+    unsigned copies = fate < line->loss ? 0 : fate < line->loss + REPEATS ? 2 : 1;
     if (bag->count + copies > BAG_FRAMES) copies = 0;
     line->put++;
     line->lost += copies == 0;
@@ -102,9 +104,7 @@ struct ends {
 
 static void must_be_ok(uint8_t no, const char *call)
 {
-    if (no == SEMIVRAKH_OK) return;
-    printf("%s was refused with %d, which cannot be\n", call, no);
-    exit(1);
+    if (no != SEMIVRAKH_OK) refused(no, "%s", call);
 }
 
 /* A receiver has one room for all of its transfers, from its making on. */
@@ -118,22 +118,33 @@ static struct ends make_ends(const uint8_t *pair_name, uint8_t *room, size_t roo
     return ends;
 }
 
-static uint8_t phase(const struct ends *ends)
+/* One of the numbers SEMIVRAKH_SENDER_.. */
+static size_t sender_says(const struct ends *ends, int which)
 {
-    return ends->sender[SEMIVRAKH_SENDER_PHASE_AT];
+    size_t numbers[SEMIVRAKH_SENDER_NUMBERS];
+    must_be_ok(semivrakh_sender_status(ends->sender, sizeof ends->sender, numbers, SEMIVRAKH_SENDER_NUMBERS),
+               "asking the sender");
+    return numbers[which];
 }
 
-/* Numbers in records have their most significant byte first. */
-static unsigned long number_at(const uint8_t *bytes, int count)
+/* One of the numbers SEMIVRAKH_RECEIVER_.. */
+static size_t receiver_says(const struct ends *ends, int which)
 {
-    unsigned long number = 0;
-    for (int i = 0; i < count; i++) number = 256 * number + bytes[i];
-    return number;
+    size_t numbers[SEMIVRAKH_RECEIVER_NUMBERS];
+    must_be_ok(semivrakh_receiver_status(ends->receiver, sizeof ends->receiver, numbers, SEMIVRAKH_RECEIVER_NUMBERS),
+               "asking the receiver");
+    return numbers[which];
 }
 
-static unsigned blocks_held(const struct ends *ends)
+static size_t blocks_held(const struct ends *ends)
 {
-    return (unsigned)number_at(ends->receiver + SEMIVRAKH_RECEIVER_COUNT_AT, 2);
+    return receiver_says(ends, SEMIVRAKH_RECEIVER_HELD);
+}
+
+static bool is_under_way(const struct ends *ends)
+{
+    size_t phase = sender_says(ends, SEMIVRAKH_SENDER_PHASE);
+    return phase == SEMIVRAKH_OPENING || phase == SEMIVRAKH_SENDING;
 }
 
 static void sender_sends(struct ends *ends, struct line *line, const uint8_t *sound, size_t length)
@@ -167,41 +178,54 @@ static bool sender_hears(struct ends *ends, struct line *line)
 {
     struct frame frame;
     if (!take_frame(line, &line->to_sender, &frame)) return false;
-    uint8_t before[SEMIVRAKH_SENDER_BYTES];
-    memcpy(before, ends->sender, sizeof before);
+    size_t phase = sender_says(ends, SEMIVRAKH_SENDER_PHASE);
+    size_t known = sender_says(ends, SEMIVRAKH_SENDER_KNOWN);
     uint8_t no = semivrakh_sender_hear(ends->sender, sizeof ends->sender, frame.bytes, frame.length);
     if (no == SEMIVRAKH_NO_TRANSFER || no == SEMIVRAKH_OTHER_SESSION) line->refused++;
     else must_be_ok(no, "the sender's hearing");
-    return memcmp(before, ends->sender, sizeof before) != 0;
+    return sender_says(ends, SEMIVRAKH_SENDER_PHASE) != phase || sender_says(ends, SEMIVRAKH_SENDER_KNOWN) != known;
 }
 
 /* A transfer */
 
-static void show_progress(const struct ends *ends, const struct line *line, unsigned blocks)
+/* Shows how much is held, if it is a tenth more than was shown; answers how many tenths are shown. */
+static size_t show_progress(const struct ends *ends, const struct line *line, size_t shown)
 {
+    /* an empty sound has nothing to show, and while opening the receiver may still speak of the transfer before */
+    size_t held = blocks_held(ends), blocks = sender_says(ends, SEMIVRAKH_SENDER_BLOCKS);
+    if (blocks == 0 || sender_says(ends, SEMIVRAKH_SENDER_PHASE) == SEMIVRAKH_OPENING) return shown;
+    if (held * REPORTS / blocks == shown) return shown;
     char bar[BAR + 1] = "";
-    for (unsigned i = 0; i < BAR; i++) bar[i] = i < blocks_held(ends) * BAR / blocks ? '#' : '.';
-    printf("[%s] block %3u of %u, %lu lost, %lu repeated, %lu late\n", bar, blocks_held(ends), blocks, line->lost,
-           line->repeated, line->late);
+    for (size_t i = 0; i < BAR; i++) bar[i] = i < held * BAR / blocks ? '#' : '.';
+    printf("[%s] block %3zu of %zu, %lu lost, %lu repeated, %lu late\n", bar, held, blocks, line->lost, line->repeated,
+           line->late);
+    return held * REPORTS / blocks;
+}
+
+/* On a broken line a transfer has no end of its own, so the program sets one. */
+_Noreturn static void give_up(const struct ends *ends)
+{
+    fprintf(stderr, "given up after %d ticks without news, with %zu of %zu blocks known to be held\n", GIVE_UP,
+            sender_says(ends, SEMIVRAKH_SENDER_KNOWN), sender_says(ends, SEMIVRAKH_SENDER_BLOCKS));
+    fputs("  look at the line, and begin the sound again\n", stderr);
+    exit(1);
 }
 
 /* Runs a transfer until the sender knows its end, and answers the phase it is then in. */
-static uint8_t transfer(struct ends *ends, struct line *line, const uint8_t *sound, size_t length)
+static size_t transfer(struct ends *ends, struct line *line, const uint8_t *sound, size_t length)
 {
-    unsigned blocks = (unsigned)((length + SEMIVRAKH_BLOCK_BYTES - 1) / SEMIVRAKH_BLOCK_BYTES);
-    unsigned shown = 0, quiet = 0;
+    size_t shown = 0;
+    unsigned quiet = 0;
     must_be_ok(semivrakh_sender_begin(ends->sender, sizeof ends->sender, sound, length), "beginning");
-    while ((phase(ends) == SEMIVRAKH_OPENING || phase(ends) == SEMIVRAKH_SENDING) && quiet < GIVE_UP) {
+    while (is_under_way(ends)) {
+        if (quiet == GIVE_UP) give_up(ends);
         if (quiet % PATIENCE == 0) sender_sends(ends, line, sound, length);
         receiver_hears(ends, line);
         quiet = sender_hears(ends, line) ? 0 : quiet + 1;
         line->tick++;
-        /* while opening, the receiver's count may still be that of the transfer before */
-        if (blocks == 0 || phase(ends) == SEMIVRAKH_OPENING) continue;
-        if (blocks_held(ends) * REPORTS / blocks > shown) show_progress(ends, line, blocks);
-        shown = blocks_held(ends) * REPORTS / blocks;
+        shown = show_progress(ends, line, shown);
     }
-    return phase(ends);
+    return sender_says(ends, SEMIVRAKH_SENDER_PHASE);
 }
 
 /* Lets all frames come out that are still on the line. */
@@ -226,9 +250,9 @@ static uint32_t checksum(const uint8_t *bytes, size_t length)
     return ~sum;
 }
 
-static const char *phase_words(uint8_t phase)
+static const char *end_words(size_t phase)
 {
-    return phase == SEMIVRAKH_DONE ? "done" : phase == SEMIVRAKH_REFUSED_TOO_LONG ? "refused as too long" : "NOT ENDED";
+    return phase == SEMIVRAKH_DONE ? "done" : "refused as too long";
 }
 
 /* A tone that falls, a byte a sample. */
@@ -237,41 +261,57 @@ static void make_sound(uint8_t *sound, size_t length)
     for (size_t i = 0; i < length; i++) sound[i] = (uint8_t)(i * 4096 / (i / 16 + 256));
 }
 
+/* As much of a file as the link takes. */
+static size_t read_sound(const char *path, uint8_t sound[SEMIVRAKH_SOUND_MOST])
+{
+    struct file file = read_file(path);
+    if (file.length > SEMIVRAKH_SOUND_MOST)
+        fprintf(stderr, "%s has %zu bytes, and the link takes %d: the rest is left out\n", path, file.length,
+                SEMIVRAKH_SOUND_MOST);
+    size_t length = file.length < SEMIVRAKH_SOUND_MOST ? file.length : SEMIVRAKH_SOUND_MOST;
+    if (length > 0) memcpy(sound, file.bytes, length);
+    free(file.bytes);
+    return length;
+}
+
 int main(int words, char **word)
 {
-    if (words > 3) stop("%s", usage);
+    if (words > 4) stop("%s", usage);
     setvbuf(stdout, NULL, _IOLBF, 0); /* progress is seen as it is made, through a pipe too */
     static struct line line;
     line.random = words > 1 ? number_of(word[1], "SEED", 0, UINT32_MAX) : 1;
+    line.loss = words > 3 ? number_of(word[3], "LOSS", 0, 100) : LOSS_USUAL;
     static uint8_t sound[SEMIVRAKH_SOUND_MOST], room[SEMIVRAKH_SOUND_MOST];
     size_t length = MADE_BYTES;
-    if (words > 2) length = read_file(word[2], sound, sizeof sound);
+    if (words > 2) length = read_sound(word[2], sound);
     else make_sound(sound, length);
     for (size_t i = 0; i < length; i++) room[i] = (uint8_t)~sound[i]; /* no byte is right before it has arrived */
     struct ends ends = make_ends(first_pair, room, sizeof room);
 
     printf("a sound of %zu bytes, checksum %08x\n", length, checksum(sound, length));
-    uint8_t first = transfer(&ends, &line, sound, length);
-    size_t arrived = number_at(ends.receiver + SEMIVRAKH_LENGTH_AT, 4);
-    bool same = arrived == length && memcmp(sound, room, length) == 0;
-    printf("%s, with %u blocks held, after %lu ticks and %lu frames, answers among them\n", phase_words(first),
+    size_t first = transfer(&ends, &line, sound, length);
+    size_t arrived = receiver_says(&ends, SEMIVRAKH_RECEIVER_LENGTH);
+    bool whole = receiver_says(&ends, SEMIVRAKH_RECEIVER_WHOLE) == 1;
+    bool same = whole && arrived == length && memcmp(sound, room, length) == 0;
+    printf("%s, with %zu blocks held, after %lu ticks and %lu frames, answers among them\n", end_words(first),
            blocks_held(&ends), line.tick, line.put);
     printf("arrived: %zu bytes, checksum %08x, %s\n", arrived, checksum(room, arrived),
            same ? "the same byte for byte" : "NOT THE SAME");
 
-    uint8_t second = transfer(&ends, &line, NULL, 0);
-    printf("an empty sound: %s, with %u blocks held\n", phase_words(second), blocks_held(&ends));
+    size_t second = transfer(&ends, &line, NULL, 0);
+    printf("an empty sound: %s, with %zu blocks held\n", end_words(second), blocks_held(&ends));
 
     run_empty(&ends, &line);
 
     /* A smaller room belongs to a receiver of its own, and so to another pair of ends and another line. */
     static struct line other_line;
     other_line.random = line.random;
+    other_line.loss = line.loss;
     static uint8_t small_room[SMALL_ROOM];
     static const uint8_t long_sound[SMALL_ROOM + 1];
     struct ends others = make_ends(second_pair, small_room, sizeof small_room);
-    uint8_t third = transfer(&others, &other_line, long_sound, sizeof long_sound);
-    printf("a sound of %zu bytes for a room of %zu: %s\n", sizeof long_sound, others.room_length, phase_words(third));
+    size_t third = transfer(&others, &other_line, long_sound, sizeof long_sound);
+    printf("a sound of %zu bytes for a room of %zu: %s\n", sizeof long_sound, others.room_length, end_words(third));
     run_empty(&others, &other_line);
 
     bool kept = memcmp(sound, room, length) == 0;

@@ -100,10 +100,9 @@ static void make_wav(struct wav *wav, const int16_t *samples, size_t sample_coun
     wav->length = whole;
 }
 
-/* The numbers of a pack have their most significant byte first. */
-static uint32_t pack_number(const uint8_t *bytes)
+_Noreturn static void refused_pack(uint8_t no, const struct file *pack)
 {
-    return (uint32_t)bytes[0] << 24 | (uint32_t)bytes[1] << 16 | (uint32_t)bytes[2] << 8 | bytes[3];
+    refused(no, "%s has %zu bytes", pack->path, pack->length);
 }
 
 int main(int words, char **word)
@@ -111,33 +110,37 @@ int main(int words, char **word)
     if (words != 4 && words != 5) stop("%s", usage);
     uint32_t rate = words == 5 ? number_of(word[4], "RATE", 1, RATE_MOST) : RATE_USUAL;
 
-    uint8_t ring[RING_ROOM];
-    size_t ring_length = read_ring(word[1], ring);
-    static uint8_t pack[SEMIVRAKH_PACK_MOST + 1]; /* a longer file is refused by these bytes already */
-    size_t pack_length = read_file(word[2], pack, sizeof pack);
-
-    static int16_t samples[SEMIVRAKH_SAMPLES_MOST];
+    struct file ring = read_file(word[1]);
+    struct file pack = read_file(word[2]);
     size_t answer[SEMIVRAKH_OPENED_NUMBERS];
-    uint8_t no = semivrakh_pack_open(pack, pack_length, ring, ring_length, samples, SEMIVRAKH_SAMPLES_MOST, answer,
-                                     SEMIVRAKH_OPENED_NUMBERS);
-    if (no != SEMIVRAKH_OK) refused(no);
+    uint8_t no = semivrakh_pack_survey(pack.bytes, pack.length, answer, SEMIVRAKH_OPENED_NUMBERS);
+    if (no != SEMIVRAKH_OK) refused_pack(no, &pack);
 
     size_t sample_count = answer[SEMIVRAKH_OPENED_SAMPLES];
-    size_t loop_count = answer[SEMIVRAKH_OPENED_LOOPS];
+    int16_t *samples = room_for(sample_count, sizeof *samples);
+    no = semivrakh_pack_open(pack.bytes, pack.length, ring.bytes, ring.length, samples, sample_count, answer,
+                             SEMIVRAKH_OPENED_NUMBERS);
+    if (no != SEMIVRAKH_OK) refused_ring(no, &ring); /* the pack is in order and its samples have room */
+
     uint32_t loops[2 * SEMIVRAKH_LOOPS_MOST];
-    for (size_t i = 0; i < 2 * loop_count; i++)
-        loops[i] = pack_number(pack + answer[SEMIVRAKH_OPENED_LOOPS_AT] + 4 * i);
+    size_t loop_numbers;
+    no = semivrakh_pack_loops(pack.bytes, pack.length, loops, 2 * SEMIVRAKH_LOOPS_MOST, &loop_numbers);
+    if (no != SEMIVRAKH_OK) refused_pack(no, &pack);
+    size_t loop_count = loop_numbers / 2;
 
     static struct wav wav;
     make_wav(&wav, samples, sample_count, loops, loop_count, rate);
     write_file(word[3], wav.bytes, wav.length);
 
-    const char *name = (const char *)pack + answer[SEMIVRAKH_OPENED_NAME_AT];
+    const char *name = (const char *)pack.bytes + answer[SEMIVRAKH_OPENED_NAME_AT];
     printf("name %.*s\n", (int)answer[SEMIVRAKH_OPENED_NAME_LENGTH], name);
     printf("key %zu\n", answer[SEMIVRAKH_OPENED_KEY]);
     printf("samples %zu\n", sample_count);
     printf("loops %zu\n", loop_count);
     for (size_t i = 0; i < loop_count; i++) printf("loop %zu from %u to %u\n", i + 1, loops[2 * i], loops[2 * i + 1]);
     printf("seconds %.3f\n", (double)sample_count / rate);
+    free(samples);
+    free(pack.bytes);
+    free(ring.bytes);
     return 0;
 }

@@ -1,6 +1,6 @@
 /*
  * Seals the sound of a WAV file, mono, 16 bits, PCM, as a pack. The loops of a 'smpl' chunk go with it; the rate does
- * not, for a pack has none.
+ * not, for a pack has none. Files of the extensible format are read too, and files that were written to a pipe.
  */
 #include "files.h"
 
@@ -13,11 +13,13 @@ static const char usage[] =
     "  NAME        up to 32 letters, digits, spaces and signs of ASCII";
 
 enum {
-    WAV_MOST = 16 << 20, /* bytes: far more than a sound for a pack needs, and little enough to hold */
     RIFF_HEAD = 12,
     CHUNK_HEAD = 8,
+    UNKNOWN_LEAST = 0x7FFFF000, /* a length from here on, or one of 0, was not known when it was written */
     FMT_BYTES = 16,
+    FMT_EXTENSIBLE_BYTES = 40,
     PCM = 1,
+    EXTENSIBLE = 0xFFFE, /* the format itself stands further behind, with what belongs to it */
     SAMPLE_BITS = 16,
     SAMPLE_BYTES = 2,
     SMPL_HEAD = 36,
@@ -38,13 +40,6 @@ struct chunk {
     size_t length;
 };
 
-static void *room_for(size_t count, size_t size)
-{
-    void *room = calloc(count + 1, size); /* one more, so that nothing at all is room as well */
-    if (room == NULL) stop("there is not enough memory");
-    return room;
-}
-
 /* The numbers of a WAV file have their least significant byte first. */
 static uint32_t wav_number(const uint8_t *bytes, int count)
 {
@@ -53,28 +48,75 @@ static uint32_t wav_number(const uint8_t *bytes, int count)
     return number;
 }
 
-/* The first chunk of that name. Each begins at an even place. */
-static struct chunk find_chunk(const char *path, const uint8_t *wav, size_t wav_length, const char *id)
+/* A program that writes to a pipe can't go back to a length that it did not know. */
+static bool is_unknown(size_t length)
 {
-    for (size_t at = RIFF_HEAD; at + CHUNK_HEAD <= wav_length;) {
-        size_t length = wav_number(wav + at + 4, 4);
+    return length == 0 || length >= UNKNOWN_LEAST;
+}
+
+/* What the WAV file says of its length, without its first chunk's head. */
+static size_t said_length(const struct file *wav)
+{
+    return wav_number(wav->bytes + 4, 4);
+}
+
+/* Where the WAV file ends. What some programs hang behind it is not looked at. */
+static size_t end_of(const struct file *wav)
+{
+    size_t end = CHUNK_HEAD + said_length(wav);
+    return is_unknown(said_length(wav)) || end > wav->length ? wav->length : end;
+}
+
+/* Samples of unknown length go to the end of the file. None at all are just that if the file says that it goes on. */
+static bool is_to_the_end(const struct file *wav, size_t at, size_t length)
+{
+    bool goes_on = !is_unknown(said_length(wav)) && at + CHUNK_HEAD < end_of(wav);
+    return memcmp(wav->bytes + at, "data", 4) == 0 && is_unknown(length) && !(length == 0 && goes_on);
+}
+
+/* The first chunk of that name. Each begins at an even place. */
+static struct chunk find_chunk(const struct file *wav, const char *id)
+{
+    size_t end = end_of(wav);
+    for (size_t at = RIFF_HEAD; at + CHUNK_HEAD <= end;) {
+        size_t length = wav_number(wav->bytes + at + 4, 4);
         size_t body = at + CHUNK_HEAD;
-        if (length > wav_length - body) stop("%s ends inside the chunk that begins at byte %zu", path, at);
-        if (memcmp(wav + at, id, 4) == 0) return (struct chunk){wav + body, length};
+        if (is_to_the_end(wav, at, length)) length = wav->length - body;
+        else if (length > end - body) stop("%s ends inside the chunk that begins at byte %zu", wav->path, at);
+        if (memcmp(wav->bytes + at, id, 4) == 0) return (struct chunk){wav->bytes + body, length};
         at = body + length + length % 2;
     }
     return (struct chunk){NULL, 0};
 }
 
+/* The format's number; of an extensible format the one with which its identifier begins. */
+static unsigned format_of(const char *path, struct chunk fmt)
+{
+    static const uint8_t rest[] = {0, 0, 0, 0, 0x10, 0, 0x80, 0, 0, 0xAA, 0, 0x38, 0x9B, 0x71};
+    unsigned format = wav_number(fmt.body, 2);
+    if (format != EXTENSIBLE) return format;
+    if (fmt.length < FMT_EXTENSIBLE_BYTES)
+        stop("%s has a chunk 'fmt ' of %zu bytes, and the extensible format has at least %d", path, fmt.length,
+             FMT_EXTENSIBLE_BYTES);
+    if (memcmp(fmt.body + 26, rest, sizeof rest) != 0)
+        stop("%s is not plain PCM: its extensible format is none of the numbered ones", path);
+    return wav_number(fmt.body + 24, 2);
+}
+
+static void check_bits(const char *path, unsigned bits)
+{
+    if (bits != SAMPLE_BITS) stop("%s has samples of %u bits, and a pack holds 16: convert it first", path, bits);
+}
+
 static void check_format(const char *path, struct chunk fmt)
 {
     if (fmt.body == NULL || fmt.length < FMT_BYTES) stop("%s has no whole chunk 'fmt ', which says its format", path);
-    unsigned format = wav_number(fmt.body, 2);
+    unsigned format = format_of(path, fmt);
     unsigned channels = wav_number(fmt.body + 2, 2);
-    unsigned bits = wav_number(fmt.body + 14, 2);
     if (format != PCM) stop("%s is not plain PCM, which is format 1: it has format %u", path, format);
     if (channels != 1) stop("%s has %u channels, and a pack holds one: mix it down to mono first", path, channels);
-    if (bits != SAMPLE_BITS) stop("%s has samples of %u bits, and a pack holds 16: convert it first", path, bits);
+    check_bits(path, wav_number(fmt.body + 14, 2));
+    if (wav_number(fmt.body, 2) == EXTENSIBLE) check_bits(path, wav_number(fmt.body + 18, 2)); /* those in use */
 }
 
 static void read_samples(const char *path, struct chunk data, struct sound *sound)
@@ -108,19 +150,13 @@ static void read_loops(const char *path, struct chunk smpl, struct sound *sound)
 
 static void read_wav(const char *path, struct sound *sound)
 {
-    uint8_t *wav = room_for(WAV_MOST, 1);
-    size_t length = read_file(path, wav, WAV_MOST + 1);
-    if (length > WAV_MOST) stop("%s is over %d bytes, far too long for a pack", path, WAV_MOST);
-    if (length < RIFF_HEAD || memcmp(wav, "RIFF", 4) != 0 || memcmp(wav + 8, "WAVE", 4) != 0)
+    struct file wav = read_file(path);
+    if (wav.length < RIFF_HEAD || memcmp(wav.bytes, "RIFF", 4) != 0 || memcmp(wav.bytes + 8, "WAVE", 4) != 0)
         stop("%s is not a WAV file", path);
-    /* what some programs hang behind the WAV file is not looked at */
-    size_t said = CHUNK_HEAD + (size_t)wav_number(wav + 4, 4);
-    if (said < length) length = said;
-
-    check_format(path, find_chunk(path, wav, length, "fmt "));
-    read_samples(path, find_chunk(path, wav, length, "data"), sound);
-    read_loops(path, find_chunk(path, wav, length, "smpl"), sound);
-    free(wav);
+    check_format(path, find_chunk(&wav, "fmt "));
+    read_samples(path, find_chunk(&wav, "data"), sound);
+    read_loops(path, find_chunk(&wav, "smpl"), sound);
+    free(wav.bytes);
 }
 
 static int hex_digit(char letter)
@@ -143,27 +179,84 @@ static size_t read_value(const char *hex, uint8_t value[VALUE_ROOM])
     return digits / 2;
 }
 
+/* Whether there is such a key is for the library to say, which takes any byte. */
+static uint8_t read_key_number(const char *text)
+{
+    uint32_t number;
+    if (!read_number(text, UINT8_MAX, &number)) stop("KEY_NUMBER is a number from 0 to 3, not '%s'", text);
+    return (uint8_t)number;
+}
+
+/* All that sealing is given. */
+struct order {
+    struct file ring;
+    uint8_t key_number;
+    uint8_t value[VALUE_ROOM];
+    size_t value_length;
+    const char *name;
+    const char *wav_path;
+    struct sound sound;
+};
+
+_Noreturn static void refused_name(uint8_t no, const char *name)
+{
+    size_t at = 0;
+    while (name[at] >= ' ' && name[at] <= '~') at++;
+    refused(no, "byte %zu of NAME is %u, and a name has bytes from 32 to 126", at + 1, (uint8_t)name[at]);
+}
+
+_Noreturn static void refused_loop(uint8_t no, const struct order *order)
+{
+    const struct sound *sound = &order->sound;
+    const uint32_t *loop = sound->loops;
+    while (loop[0] < loop[1] && loop[1] <= sound->sample_count) loop += 2;
+    refused(no, "loop %zu of %s goes from sample %u to sample %u, counted from 0, of %zu in all",
+            (size_t)(loop - sound->loops) / 2 + 1, order->wav_path, loop[0], loop[1] - 1, sound->sample_count);
+}
+
+/* The library judges; what it has no words for are the files and the figures. */
+_Noreturn static void refused_order(uint8_t no, const struct order *order)
+{
+    switch (no) {
+    case SEMIVRAKH_BAD_KEY: refused_ring(no, &order->ring);
+    case SEMIVRAKH_BAD_NAME: refused_name(no, order->name);
+    case SEMIVRAKH_BAD_LOOP: refused_loop(no, order);
+    case SEMIVRAKH_LONG_NAME:
+        refused(no, "NAME has %zu bytes, and a pack's name at most %d", strlen(order->name), SEMIVRAKH_NAME_MOST);
+    case SEMIVRAKH_BAD_VALUE:
+        refused(no, "VALUE_HEX has %zu bytes, and an initial value has %d", order->value_length, SEMIVRAKH_VALUE_BYTES);
+    case SEMIVRAKH_BAD_KEY_NUMBER:
+        refused(no, "KEY_NUMBER is %d, and %s has the keys 0 to 3", order->key_number, order->ring.path);
+    case SEMIVRAKH_MANY_SAMPLES:
+        refused(no, "%s has %zu samples, and a pack holds at most %d", order->wav_path, order->sound.sample_count,
+                SEMIVRAKH_SAMPLES_MOST);
+    case SEMIVRAKH_MANY_LOOPS:
+        refused(no, "%s has %zu loops, and a pack holds at most %d", order->wav_path, order->sound.loop_count,
+                SEMIVRAKH_LOOPS_MOST);
+    default: refused(no, "%s cannot be sealed", order->wav_path);
+    }
+}
+
 int main(int words, char **word)
 {
     if (words != 7) stop("%s", usage);
-    uint8_t ring[RING_ROOM];
-    size_t ring_length = read_ring(word[1], ring);
-    uint8_t key_number = (uint8_t)number_of(word[2], "KEY_NUMBER", 0, UINT8_MAX);
-    uint8_t value[VALUE_ROOM];
-    size_t value_length = read_value(word[3], value);
-    const char *name = word[4];
-    struct sound sound;
-    read_wav(word[5], &sound);
+    struct order order = {.ring = read_file(word[1]), .key_number = read_key_number(word[2]), .name = word[4],
+                          .wav_path = word[5]};
+    order.value_length = read_value(word[3], order.value);
+    struct sound *sound = &order.sound;
+    read_wav(order.wav_path, sound);
 
     static uint8_t pack[SEMIVRAKH_PACK_MOST];
     size_t pack_length;
-    uint8_t no = semivrakh_pack_seal((const uint8_t *)name, strlen(name), ring, ring_length, key_number, value,
-                                     value_length, sound.samples, sound.sample_count, sound.loops, 2 * sound.loop_count,
+    uint8_t no = semivrakh_pack_seal((const uint8_t *)order.name, strlen(order.name), order.ring.bytes,
+                                     order.ring.length, order.key_number, order.value, order.value_length,
+                                     sound->samples, sound->sample_count, sound->loops, 2 * sound->loop_count,
                                      pack, sizeof pack, &pack_length);
-    if (no != SEMIVRAKH_OK) refused(no);
+    if (no != SEMIVRAKH_OK) refused_order(no, &order);
     write_file(word[6], pack, pack_length);
-    printf("samples %zu\nloops %zu\nbytes %zu\n", sound.sample_count, sound.loop_count, pack_length);
-    free(sound.samples);
-    free(sound.loops);
+    printf("samples %zu\nloops %zu\nbytes %zu\n", sound->sample_count, sound->loop_count, pack_length);
+    free(sound->samples);
+    free(sound->loops);
+    free(order.ring.bytes);
     return 0;
 }

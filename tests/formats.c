@@ -1,0 +1,253 @@
+/*
+ * Holds the worked examples of docs/FORMATS.md to the library. Standard input has a line for each block of the paper,
+ * its label and its bytes in hex; keys, values and sounds are among them, so the library starts from what the paper
+ * says. Files and frames are read back as the paper has them. Prints what differs, and how many cases there were.
+ */
+#include <stdbool.h>
+#include <stdio.h>
+#include <stdlib.h>
+#include <string.h>
+
+#include "semivrakh.h"
+#include "semivrakh_words.h"
+
+enum { BLOCKS_MOST = 80, BYTES_MOST = 128, LINE_MOST = 512, SOUND_BYTES = 65 };
+
+struct block {
+    char label[LINE_MOST];
+    uint8_t bytes[BYTES_MOST];
+    size_t length;
+    bool used;
+};
+
+static struct block blocks[BLOCKS_MOST];
+static size_t block_count;
+static unsigned cases, wrong;
+
+/* Reading the paper's blocks */
+
+static void stop(const char *why, const char *where) {
+    fprintf(stderr, "formats: %s: %s\n", why, where);
+    exit(2);
+}
+
+static void read_block(char *line) {
+    if (block_count == BLOCKS_MOST) stop("too many blocks", line);
+    struct block *block = &blocks[block_count++];
+    char *hex = strchr(line, ':');
+    if (hex == NULL) stop("no label", line);
+    *hex++ = '\0';
+    snprintf(block->label, sizeof block->label, "%s", line);
+    for (char *end;; hex = end) {
+        unsigned long byte = strtoul(hex, &end, 16);
+        if (end == hex) break;
+        if (byte > UINT8_MAX || block->length == BYTES_MOST) stop("no byte, or too many", line);
+        block->bytes[block->length++] = (uint8_t)byte;
+    }
+    if (strspn(hex, " \n") != strlen(hex)) stop("no hex", line);
+}
+
+static void fault(const char *label, const char *what) {
+    wrong++;
+    fprintf(stderr, "formats, %s: %s\n", label, what);
+}
+
+/* A label that the paper lacks is a fault, and stands for no bytes. */
+static const struct block *block(const char *label) {
+    static const struct block none;
+    for (size_t i = 0; i < block_count; i++) {
+        if (strcmp(blocks[i].label, label) != 0) continue;
+        blocks[i].used = true;
+        return &blocks[i];
+    }
+    cases++;
+    fault(label, "the paper has no such block");
+    return &none;
+}
+
+/* Comparing */
+
+static void show(const char *whose, const uint8_t *bytes, size_t length) {
+    fprintf(stderr, "  %s:", whose);
+    for (size_t i = 0; i < length; i++) fprintf(stderr, " %02X", bytes[i]);
+    fputc('\n', stderr);
+}
+
+static void same(const char *label, const uint8_t *made, size_t length) {
+    const struct block *said = block(label);
+    cases++;
+    if (said->length == length && memcmp(said->bytes, made, length) == 0) return;
+    fault(label, "the paper and the library differ");
+    show("the paper", said->bytes, said->length);
+    show("the library", made, length);
+}
+
+static void holds(const char *label, bool so) {
+    cases++;
+    if (!so) fault(label, "the library does not do what the paper says");
+}
+
+static void accepted(const char *label, uint8_t no) {
+    holds(label, no == SEMIVRAKH_OK);
+}
+
+/* The pack */
+
+static const uint8_t name[] = {'H', 'i'};
+static const int16_t samples[] = {1, -2, 32767};
+static const uint32_t loops[] = {0, 3};
+enum { KEY_NUMBER = 1, SAMPLES = 3, WORD_BYTES = 2 * SAMPLES };
+
+static void cipher_of(const char *label, uint8_t cipher[SEMIVRAKH_CIPHER_BYTES], const uint8_t *key,
+                      const struct block *value) {
+    accepted(label, semivrakh_cipher_make(cipher, SEMIVRAKH_CIPHER_BYTES, key, SEMIVRAKH_KEY_BYTES, value->bytes,
+                                          value->length));
+}
+
+/* Bytes under the keystream from its beginning. */
+static void covered(const char *label, const uint8_t *key, const struct block *value, const uint8_t *plain,
+                    size_t length) {
+    uint8_t cipher[SEMIVRAKH_CIPHER_BYTES], output[BYTES_MOST];
+    cipher_of(label, cipher, key, value);
+    accepted(label, semivrakh_cipher_encipher(cipher, sizeof cipher, plain, length, output, sizeof output));
+    same(label, output, length);
+}
+
+static void pack_sealed(const struct block *ring, const struct block *value) {
+    uint8_t file[BYTES_MOST];
+    size_t length = 0;
+    accepted("pack file", semivrakh_pack_seal(name, sizeof name, ring->bytes, ring->length, KEY_NUMBER, value->bytes,
+                                              value->length, samples, SAMPLES, loops, 2, file, sizeof file, &length));
+    same("pack file", file, length);
+}
+
+static void pack_opened(const struct block *ring) {
+    static const size_t told[SEMIVRAKH_OPENED_NUMBERS] = {SAMPLES, KEY_NUMBER, 1, sizeof name, 1, 5, 26};
+    const struct block *file = block("pack file");
+    int16_t sound[SAMPLES] = {0};
+    size_t answer[SEMIVRAKH_OPENED_NUMBERS] = {0};
+    accepted("pack file", semivrakh_pack_open(file->bytes, file->length, ring->bytes, ring->length, sound, SAMPLES,
+                                              answer, SEMIVRAKH_OPENED_NUMBERS));
+    holds("pack file", memcmp(sound, samples, sizeof samples) == 0 && memcmp(answer, told, sizeof told) == 0);
+}
+
+static void pack(void) {
+    static const uint8_t zeros[WORD_BYTES];
+    const struct block *ring = block("pack ring"), *value = block("pack value");
+    const uint8_t *key = ring->bytes + KEY_NUMBER * SEMIVRAKH_KEY_BYTES;
+    uint8_t words[WORD_BYTES], cipher[SEMIVRAKH_CIPHER_BYTES];
+    for (size_t i = 0; i < SAMPLES; i++) {
+        words[2 * i] = (uint8_t)((uint16_t)samples[i] >> 8);
+        words[2 * i + 1] = (uint8_t)samples[i];
+    }
+    same("pack words", words, sizeof words);
+    cipher_of("record cipher", cipher, key, value);
+    same("record cipher", cipher, sizeof cipher);
+    covered("pack keystream", key, value, zeros, sizeof zeros);
+    covered("pack enciphered", key, value, words, sizeof words);
+    pack_sealed(ring, value);
+    pack_opened(ring);
+}
+
+/* The link */
+
+struct ends {
+    uint8_t sender[SEMIVRAKH_SENDER_BYTES], receiver[SEMIVRAKH_RECEIVER_BYTES];
+    uint8_t room[SOUND_BYTES];
+    size_t room_length;
+};
+
+static struct ends begun(const struct block *key, const uint8_t *pair, const struct block *sound, size_t room_length) {
+    struct ends ends = {.room_length = room_length};
+    accepted("link key", semivrakh_sender_make(ends.sender, sizeof ends.sender, key->bytes, key->length, pair,
+                                               SEMIVRAKH_PAIR_BYTES));
+    accepted("link key", semivrakh_receiver_make(ends.receiver, sizeof ends.receiver, key->bytes, key->length, pair,
+                                                 SEMIVRAKH_PAIR_BYTES));
+    accepted("link sound", semivrakh_sender_begin(ends.sender, sizeof ends.sender, sound->bytes, sound->length));
+    return ends;
+}
+
+/* A round: the frame and its answer are what the paper says, and each end hears them as the paper has them. */
+static void round_of(struct ends *ends, const struct block *sound, const char *up, const char *down) {
+    uint8_t frame[SEMIVRAKH_FRAME_MOST], answer[SEMIVRAKH_ANSWER_MOST];
+    size_t frame_length = 0, answer_length = 0;
+    accepted(up, semivrakh_sender_send(ends->sender, sizeof ends->sender, sound->bytes, sound->length, frame,
+                                       sizeof frame, &frame_length));
+    same(up, frame, frame_length);
+    accepted(up, semivrakh_receiver_hear(ends->receiver, sizeof ends->receiver, block(up)->bytes, block(up)->length,
+                                         ends->room, ends->room_length, answer, sizeof answer, &answer_length));
+    same(down, answer, answer_length);
+    accepted(down, semivrakh_sender_hear(ends->sender, sizeof ends->sender, block(down)->bytes, block(down)->length));
+}
+
+static bool in_phase(const struct ends *ends, uint8_t phase) {
+    return ends->sender[SEMIVRAKH_SENDER_PHASE_AT] == phase;
+}
+
+static void transfer(const struct block *key, const struct block *pair, const struct block *sound) {
+    struct ends ends = begun(key, pair->bytes, sound, SOUND_BYTES);
+    round_of(&ends, sound, "link opening", "link holds 0");
+    round_of(&ends, sound, "link block 0", "link holds 1");
+    same("record sender", ends.sender, sizeof ends.sender);
+    same("record receiver", ends.receiver, sizeof ends.receiver);
+    round_of(&ends, sound, "link block 1", "link holds 2");
+    holds("link holds 2", in_phase(&ends, SEMIVRAKH_DONE) && memcmp(ends.room, sound->bytes, SOUND_BYTES) == 0);
+}
+
+/* The same sound under another pair name, with a byte too little room. */
+static void too_long(const struct block *key, const struct block *sound) {
+    static const uint8_t other_pair[SEMIVRAKH_PAIR_BYTES] = {'d', 'e', 's', 'k', '-', '2'};
+    struct ends ends = begun(key, other_pair, sound, SOUND_BYTES - 1);
+    round_of(&ends, sound, "link opening", "link too long");
+    holds("link too long", in_phase(&ends, SEMIVRAKH_REFUSED_TOO_LONG));
+}
+
+/* The initial value gives the keystream, and with it both blocks, as one stream. */
+static void one_stream(const struct block *key, const struct block *sound) {
+    static const uint8_t zeros[SOUND_BYTES];
+    enum { HEAD = 8, FIRST = SEMIVRAKH_BLOCK_BYTES };
+    const struct block *stream = block("link keystream"), *one = block("link block 0"), *two = block("link block 1");
+    covered("link keystream", key->bytes, block("link value"), zeros, sizeof zeros);
+    bool so = sound->length == SOUND_BYTES && one->length == HEAD + FIRST && two->length == HEAD + 1;
+    for (size_t i = 0; so && i < SOUND_BYTES; i++) {
+        uint8_t sent = i < FIRST ? one->bytes[HEAD + i] : two->bytes[HEAD];
+        so = sent == (sound->bytes[i] ^ stream->bytes[i]);
+    }
+    holds("link keystream", so);
+}
+
+static void link_frames(void) {
+    const struct block *key = block("link key"), *pair = block("link pair"), *sound = block("link sound");
+    transfer(key, pair, sound);
+    too_long(key, sound);
+    one_stream(key, sound);
+}
+
+/* The numbers for no: the paper's table has a row for each, and no other. */
+
+static void number_told(unsigned number) {
+    char label[LINE_MOST];
+    snprintf(label, sizeof label, "number %u", number);
+    if (number != SEMIVRAKH_OK) same(label, NULL, 0);
+}
+
+static void numbers(void) {
+#define ROW(number, words, advice) number_told(number);
+    SEMIVRAKH_WORDS_TABLE(ROW)
+#undef ROW
+}
+
+int main(void) {
+    char line[LINE_MOST];
+    while (fgets(line, sizeof line, stdin) != NULL) read_block(line);
+    pack();
+    link_frames();
+    numbers();
+    for (size_t i = 0; i < block_count; i++) {
+        if (blocks[i].used) continue;
+        cases++;
+        fault(blocks[i].label, "nothing here looks at this block");
+    }
+    printf("formats: %u cases, %u differ\n", cases, wrong);
+    return wrong == 0 ? 0 : 1;
+}
