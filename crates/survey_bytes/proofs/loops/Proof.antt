@@ -25,14 +25,14 @@ fault-is f =
     f .fault .ensures (p .file .now) told ∙ room-halved (p .file .now) _ _ ∙ same-loops (p .file .now) told _
 
 -- what holds of a file and a run without a fault
-record Sound (s : tie.After-survey) : Type 0 where
+record Faultless (s : tie.After-survey) : Type 0 where
   taken : s .survey .result .refusal ≡ accepted
   counted : s .survey .result .loops ≡ loopCount trivium (s .before .before .before .args .file .now)
   found : s .survey .result .«loops_at» ≡ loopsPlace trivium (s .before .before .before .args .file .now)
   fits : loopNumbers (s .before .before .before .args .file .now) ≤ length (s .before .before .before .args .loops .now)
 
-sound : (c : tie.Else1) → Sound (c .before .before)
-sound c =
+faultless : (c : tie.Else1) → Faultless (c .before .before)
+faultless c =
     let s = c .before .before in
     let p = s .before .before .before .args in
     let right =
@@ -55,7 +55,7 @@ returns c = settled-left _ _ _ (c .before .fault .result) (c .if1 .taken) (fault
 
 read-numbers-requires : tie.Need-read-numbers-requires
 read-numbers-requires c κs =
-    let all = sound (c .before) in
+    let all = faultless (c .before) in
     let s = c .before .before .before in
     omega (arith, all, loops-there (s .before .before .before .args .file .now) (s .survey .ensures) (all .taken))
 
@@ -67,7 +67,7 @@ returns-2 c =
     let s = e .before .before in
     let p = s .before .before .before .args in
     let file : List ℕ = p .file .now in
-    let all = sound e in
+    let all = faultless e in
     let n : ℕ = loopNumbers file in
     let size = many-read 4 n file (loopsPlace trivium file) in
     wrote-so
@@ -80,5 +80,5 @@ returns-2 c =
 pub loops-spec : {M : Type 1} → statement M
 loops-spec =
     tie.close
-    (tie.spec (λ c κs. search needs) (λ c κs. search needs) returns (λ c. omega (arith, sound c)) read-numbers-requires
-    (λ c. omega (arith, sound (c .before .before .before .before))) (λ c. search needs) returns-2)
+    (tie.spec (λ c κs. search needs) (λ c κs. search needs) returns (λ c. omega (arith, faultless c)) read-numbers-requires
+    (λ c. omega (arith, faultless (c .before .before .before .before))) (λ c. search needs) returns-2)
