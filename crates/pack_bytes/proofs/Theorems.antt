@@ -1,17 +1,22 @@
--- A refused call leaves all that it was lent as it was. Survey answers what opening answers: both are settled by the
--- same rules of the file.
+-- A refused call leaves all that it was lent as it was. Survey and loops tell what opening tells: all are settled by
+-- the same rules of the file.
 use mathlib.Core.{Path._≡_, Path.refl, Path.sym, Path.ap, Path._∙_, List.List, List.[], List._∷_}
 use Prim.Native.Nat.{ℕ}
-use lib.{IntN.ℤ, ListN.length}
+use native.Mathlib.Omega.{arith}
+use lib.{IntN.ℤ, ListN.length, ListN.take}
+use Rattle.octets.specs.{Buffers.placed, Rows.numbersAt}
+use Rattle.octets.proofs.{Buffers.take-placed, Rows.many-read}
 use Rattle.refusals.specs.{Numbers.accepted, Numbers.noRoom, Outcome.outcome, Rules._under_, Rules._says_, Rules.Leaves}
 use Rattle.refusals.proofs.Faults.{none-wrong, right-both, right-after}
 use Rattle.refusals.proofs.Settled.{done-if, settled-number, settled-leaves, answer-done}
 use Rattle.trivium.specs.Keystream.{trivium}
 use Rattle.pack.specs.Faults.{faultsFromSamples, faultsFromKey, fileFaults, roomFaults, openFaults}
-use Rattle.pack.specs.{Layout.Parts, Places.sampleCount}
-use Rattle.record_bytes.specs.Written.{wrote}
-use Rattle.survey_bytes.specs.Calls.{numbersRoom, packSurvey}
-use Rattle.pack_bytes.specs.Calls.{PackOpened, packOpened, packOpenFaults, packOpen, packSeal}
+use Rattle.pack.specs.{Layout.Parts, Layout.fours, Places.sampleCount, Places.loopsPlace, Places.partsOf, Ring.ringOf}
+use Rattle.record_bytes.specs.Written.{Written, wrote}
+use Rattle.survey_bytes.specs.Calls.{numbersRoom, packSurvey, loopNumbers, packLoopsFaults, packLoops}
+use Rattle.survey_bytes.proofs.Theorems.{loops-of-parts}
+use Rattle.pack_bytes.specs.{Calls.PackOpened, Calls.packOpened, Calls.packOpenFaults, Calls.packOpen}
+use Rattle.pack_bytes.specs.{Calls.packSeal, Told.ToldAlike}
 
 pub pack-open-leaves : (file ring : List ℕ) (samples : List ℤ) (answer : List ℕ)
     → Leaves (λ o. o .number) (packOpened samples answer) (packOpen file ring samples answer)
@@ -23,8 +28,7 @@ pub pack-seal-leaves : (ring : List ℕ) (p : Parts) (output : List ℕ) (before
 unfolding packSeal
 pack-seal-leaves ring p output before = settled-leaves _ _ _ (λ w. w .number) refl (λ n. refl)
 
--- a file that was opened is surveyed with the same seven numbers
-pub survey-told : (file ring : List ℕ) (samples : List ℤ) (answer : List ℕ)
+survey-told : (file ring : List ℕ) (samples : List ℤ) (answer : List ℕ)
     → packOpen file ring samples answer .number ≡ accepted
     → packSurvey file answer ≡ outcome accepted (packOpen file ring samples answer .answer)
 unfolding packOpen packSurvey openFaults fileFaults faultsFromKey faultsFromSamples
@@ -40,3 +44,23 @@ survey-told file ring samples answer z =
     (right-after (fileFaults trivium file) (roomFaults numbersRoom (length answer)) (own .0) (both .1 .0, tt)))
     ∙ ap (λ (o : PackOpened). outcome accepted (o .answer))
     (sym (answer-done _ _ _ (λ (o : PackOpened). o .number) refl (λ n. refl) refl z))
+
+loops-told : (file ring run : List ℕ) (before : ℕ) → packLoops file run before .number ≡ accepted
+    → take (packLoops file run before .count) (packLoops file run before .buffer)
+    ≡ partsOf trivium (ringOf ring) file .loops
+unfolding packLoops fileFaults faultsFromKey faultsFromSamples
+loops-told file ring run before z =
+    let n : ℕ = loopNumbers file in
+    let numbers : List ℕ = numbersAt (fours n) file (loopsPlace trivium file) in
+    let right = none-wrong (packLoopsFaults file (length run)) tt
+    (sym (settled-number _ _ _ (λ (w : Written). w .number) refl (λ n. refl)) ∙ z) in
+    let room = right-both (fileFaults trivium file) (roomFaults n (length run)) right .1 .0 in
+    let size = many-read 4 n file (loopsPlace trivium file) in
+    ap (λ (w : Written). take (w .count) (w .buffer))
+    (answer-done _ _ _ (λ (w : Written). w .number) refl (λ n. refl) refl z)
+    ∙ ap (λ (k : ℕ). take k (placed run 0 numbers)) (sym size)
+    ∙ take-placed run numbers (omega arith)
+    ∙ loops-of-parts (ringOf ring) file
+
+pub told-alike : (file ring : List ℕ) → ToldAlike file ring
+told-alike file ring = record { numbers = survey-told file ring; loops = loops-told file ring }
