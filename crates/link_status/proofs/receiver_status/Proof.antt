@@ -26,7 +26,8 @@ returns c =
     ∙ receiver-told (p .answer .now) r (rule .in-rule .ensures) (omega arith) (omega arith) (omega arith)
     (omega (arith, blocks-in))
     (w .whole-flag .ensures ∙ ap (λ (all : ℕ). cond (some (r .session) && eqb (r .count) all) 1 0) blocks-in)
-    ∙ ap (λ (r : Receiver). telling (receiverInRule r) (receiverNumbers r) (p .answer .now)) (read .receiver-in .ensures)
+    ∙ ap (λ (r : Receiver). telling (receiverInRule r) (receiverNumbers r) (p .answer .now))
+    (read .receiver-in .ensures)
 
 pub receiver-status-spec : {M : Type 1} → statement M
 receiver-status-spec =

@@ -80,5 +80,6 @@ returns-2 c =
 pub loops-spec : {M : Type 1} → statement M
 loops-spec =
     tie.close
-    (tie.spec (λ c κs. search needs) (λ c κs. search needs) returns (λ c. omega (arith, faultless c)) read-numbers-requires
-    (λ c. omega (arith, faultless (c .before .before .before .before))) (λ c. search needs) returns-2)
+    (tie.spec (λ c κs. search needs) (λ c κs. search needs) returns (λ c. omega (arith, faultless c))
+    read-numbers-requires (λ c. omega (arith, faultless (c .before .before .before .before)))
+    (λ c. search needs) returns-2)
