@@ -24,8 +24,8 @@ struct size {
     uint64_t each_number_a_call; /* for a call that lists it, at least */
 };
 
-static const struct size short_run = {80000, 100, 1};
-static const struct size long_run = {3000000, 100, 100};
+static const struct size short_run = {100000, 100, 1};
+static const struct size long_run = {5100000, 100, 100};
 
 static void (*const families[])(void) = {
     making_ciphers,      enciphering,       streams_in_pieces,    damaged_ciphers, random_cipher_input,
