@@ -7,9 +7,9 @@ use lib.ListN.{length, drop, length-append, length-take, length-drop}
 use Rattle.octets.specs.{Buffers.put, Digits.digits, Stream.Cipher, Stream.from}
 use Rattle.octets.proofs.{Numbers.length-digits, Streams.length-enciphered, Streams.enciphered-twice}
 use Rattle.octets.proofs.Buffers.{put-placed, put-whole, goes-on}
-use Rattle.trivium.specs.{Calls.makingCipher, Calls.skipping, Keystream.keystream, Keystream.trivium, Record.state}
-use Rattle.trivium.specs.{Registers.started, Registers.steps, declared.Made.Made}
-use Rattle.trivium.proofs.{Bytes.keystream-from, Steps.state-skip, Steps.state-started, Theorems.makes}
+use Rattle.trivium.specs.{Calls.makingAt, Keystream.keystream, Keystream.trivium, Record.state, Registers.started}
+use Rattle.trivium.specs.{Registers.steps, declared.Made.Made}
+use Rattle.trivium.proofs.{Bytes.keystream-from, Theorems.makes-at, Theorems.moved-on}
 use Rattle.blocks.specs.{Blocks.place, Blocks.size, Blocks.blockOf, Covering.initial, Covering.covered}
 
 -- ---- the cipher
@@ -29,17 +29,18 @@ value-made d pair session ten six =
     ∙ sym (put-placed d 0 (initial pair session) (omega arith))
     ∙ put-whole d (initial pair session) (omega arith)
 
--- the cipher made and moved on by so many bytes
-pub stands : (key pair : List ℕ) (session at : ℕ) → length key ≡ 10 → length pair ≡ 6
-    → keystream (state (skipping (makingCipher key (initial pair session) .registers) at))
-    ≡ from at (trivium .stream key (initial pair session))
-stands key pair session at ten six =
+-- the cipher made and moved on by eight strides a block
+pub stands : (key pair : List ℕ) (session k : ℕ) → length key ≡ 10 → length pair ≡ 6
+    → keystream (state (makingAt key (initial pair session) (8 * k) .registers))
+    ≡ from (place k) (trivium .stream key (initial pair session))
+stands key pair session k ten six =
     let iv : List ℕ = initial pair session in
+    let bytes : 64 * (8 * k) ≡ 8 * place k = omega arith in
     ap keystream
-    (ap (λ (m : Made). state (skipping (m .registers) at)) (makes key iv ten (length-initial pair session six))
-    ∙ state-skip _ at
-    ∙ ap (steps (8 * at)) (state-started key iv))
-    ∙ sym (keystream-from at (started key iv))
+    (ap (λ (m : Made). state (m .registers)) (makes-at key iv (8 * k) ten (length-initial pair session six))
+    ∙ moved-on key iv (8 * k)
+    ∙ ap (λ (n : ℕ). steps n (started key iv)) bytes)
+    ∙ sym (keystream-from (place k) (started key iv))
 
 -- ---- covering
 

@@ -5,7 +5,7 @@ ghost use Rattle.octets.specs.Buffers.{put};
 ghost use Rattle.octets.specs.Stream.{from};
 ghost use Rattle.trivium.specs.Keystream.{keystream, trivium};
 ghost use Rattle.trivium.specs.Record.{state};
-ghost use Rattle.blocks.specs.Blocks.{blocks, size};
+ghost use Rattle.blocks.specs.Blocks.{blocks, place, size};
 ghost use Rattle.blocks.specs.Covering.{initial, covered};
 
 // The bytes of a block, and the most bytes of a sound.
@@ -39,17 +39,17 @@ pub fn block_size(length: usize, k: u16) -> usize
     }
 }
 
-// A session's cipher, made anew and moved on to a place in the sound.
-fn cipher(key: &[u8], pair: &[u8], session: u32, at: usize) -> Registers
+// A session's cipher, made anew and moved on to block k of the sound, whose 64 bytes are eight strides.
+fn cipher(key: &[u8], pair: &[u8], session: u32, k: u16) -> Registers
     requires { ⌜ (length (now key) ≡ 10) × (length (now pair) ≡ 6) ⌝ }
-    ensures { λ r. ⌜ keystream (state r) ≡ from at (trivium .stream (now (key .entry)) (initial (now (pair .entry)) session)) ⌝ }
+    ensures { λ r. ⌜ keystream (state r)
+        ≡ from (place k) (trivium .stream (now (key .entry)) (initial (now (pair .entry)) session)) ⌝ }
 {
     let mut value = [0; 10];
     octet_writer::copy(&mut value, 0, pair);
     octet_writer::write_number(&mut value, 6, 4, session as u64);
-    let made = Registers::new(key, &value);
-    let registers = made.registers;
-    registers.skip(at)
+    let made = Registers::new_at(key, &value, 8 * (k as u32));
+    made.registers
 }
 
 // Block k under its part of the session's stream, to its place in a buffer, if it has room there. There and back again
@@ -72,6 +72,6 @@ pub fn cover(
     if buffer.len() - at < run.len() {
         return;
     }
-    let registers = cipher(key, pair, session, BLOCK_BYTES * (k as usize));
+    let registers = cipher(key, pair, session, k);
     registers.encipher(run, &mut buffer[at..]);
 }

@@ -1,11 +1,12 @@
 // The body of a pack, apart from its faults: enciphered bytes, read as samples.
 ghost use mathlib.Core.Path.{_≡_};
+ghost use mathlib.Core.List.{reverse};
 ghost use Prim.Native.Nat.{_+_, _/_, _≤_};
 ghost use lib.ListN.{length};
 ghost use Rattle.octets.specs.Buffers.{slice, put};
-ghost use Rattle.octets.specs.Digits.{digits};
+ghost use Rattle.octets.specs.Digits.{number, numberAt, digits};
 ghost use Rattle.octets.specs.Stream.{enciphered};
-ghost use Rattle.samples.specs.Words.{wordsOf};
+ghost use Rattle.samples.specs.Words.{swapped, wordsOf};
 ghost use Rattle.trivium.specs.Keystream.{keystream};
 ghost use Rattle.trivium.specs.Record.{state};
 ghost use Rattle.trivium.specs.Registers.{steps};
@@ -15,17 +16,39 @@ use trivium::Running;
 // How many bytes are deciphered at a time: two strides of the cipher.
 const CHUNK: usize = 16;
 
-// Four samples at their place: those that the eight bytes of a word are. The word is turned so that the compiler stores
-// all four at once.
+// Four bytes from `at` as a number, and eight, the least significant first: so the compiler loads them as they stand.
+// Every byte is turned once on its way to a sample, with the pair that it stands in.
+fn four_from(s: &[u8], at: usize) -> u32
+    requires { ⌜ at + 4 ≤ length (now s) ⌝ }
+    ensures { λ r. ⌜ r ≡ number 256 (reverse (slice (now (s .entry)) at 4)) ⌝ }
+{
+    let first = s[at] as u32;
+    let second = s[at + 1] as u32;
+    let third = s[at + 2] as u32;
+    let fourth = s[at + 3] as u32;
+    fourth * 16777216 + third * 65536 + second * 256 + first
+}
+
+fn eight_from(s: &[u8], at: usize) -> u64
+    requires { ⌜ at + 8 ≤ length (now s) ⌝ }
+    ensures { λ r. ⌜ r ≡ swapped (numberAt (now (s .entry)) at 8) ⌝ }
+{
+    let lower = four_from(s, at) as u64;
+    let upper = four_from(s, at + 4) as u64;
+    upper * 4294967296 + lower
+}
+
+// Four samples at their place: those that the eight bytes of a word are, the least significant first. With their pairs
+// swapped the compiler stores all four at once.
 fn put_four(output: &mut [i16], place: usize, word: u64)
     requires { ⌜ place + 4 ≤ length (now output) ⌝ }
-    ensures { λ _. ⌜ now (output .exit) ≡ put (now (output .entry)) place (wordsOf (digits 256 8 word)) ⌝ }
+    ensures { λ _. ⌜ now (output .exit) ≡ put (now (output .entry)) place (wordsOf (digits 256 8 (swapped word))) ⌝ }
 {
-    let turned = samples::turned(word);
-    let first = samples::sample((turned % 65536) as u16);
-    let second = samples::sample(((turned >> 16) % 65536) as u16);
-    let third = samples::sample(((turned >> 32) % 65536) as u16);
-    let fourth = samples::sample(((turned >> 48) % 65536) as u16);
+    let four = samples::swapped_in_pairs(word);
+    let first = samples::sample((four % 65536) as u16);
+    let second = samples::sample(((four >> 16) % 65536) as u16);
+    let third = samples::sample(((four >> 32) % 65536) as u16);
+    let fourth = samples::sample(((four >> 48) % 65536) as u16);
     output[place] = first;
     output[place + 1] = second;
     output[place + 2] = third;
@@ -42,11 +65,11 @@ fn read_chunk(running: Running, body: &[u8], output: &mut [i16], at: usize) -> R
 {
     let place = at / 2;
     let one = running.stride();
-    let first = octets::number_at(body, at, 8);
-    let second = octets::number_at(body, at + 8, 8);
-    put_four(output, place, first ^ one.word);
     let two = one.next.stride();
-    put_four(output, place + 4, second ^ two.word);
+    let first = eight_from(body, at);
+    let second = eight_from(body, at + 8);
+    put_four(output, place, first ^ samples::swapped(one.word));
+    put_four(output, place + 4, second ^ samples::swapped(two.word));
     two.next
 }
 
@@ -57,7 +80,8 @@ fn blank() -> [u8; 16]
     [0; CHUNK]
 }
 
-// The bytes from `at` behind the last chunk, deciphered and read as samples to their place.
+// The bytes from `at` behind the last chunk, deciphered and read as samples to their place. They are counted as a
+// remainder, so that the compiler sees how few they are.
 fn read_rest(registers: Registers, body: &[u8], output: &mut [i16], at: usize, size: usize)
     requires { ⌜ (size ≤ 16) × (at + size ≤ length (now body)) × (at / 2 + size / 2 ≤ length (now output)) ⌝ }
     ensures { λ _. ⌜ now (output .exit) ≡ put (now (output .entry)) (at / 2)
@@ -84,5 +108,5 @@ pub fn read_samples(start: Registers, body: &[u8], output: &mut [i16])
         running = read_chunk(running, body, output, at);
         at += CHUNK;
     }
-    read_rest(running.stop(), body, output, at, n - at);
+    read_rest(running.stop(), body, output, at, n % CHUNK);
 }

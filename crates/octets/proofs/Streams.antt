@@ -72,7 +72,7 @@ byte-xor x y n =
 abbrev pub byteOfWord : ℕ → ℕ → Keystream
 byteOfWord n z = λ i. getD (digits 256 n z) i 0
 
-digits-xor : (n x z : ℕ) → digits 256 n (bitXor x z) ≡ enciphered (byteOfWord n z) (digits 256 n x)
+pub digits-xor : (n x z : ℕ) → digits 256 n (bitXor x z) ≡ enciphered (byteOfWord n z) (digits 256 n x)
 unfolding digits enciphered
 digits-xor zero x z = refl
 digits-xor (suc n) x z =

@@ -2,11 +2,12 @@
 use mathlib.Core.Path.{_≡_, refl, sym, ap, _∙_}
 use mathlib.Core.List.{List, [], _∷_, map, reverse}
 use Prim.Native.Nat.{ℕ, zero, suc, _+_, _*_, _/_, _%_, _^_, _<_}
-use native.Mathlib.{Nat.zero-add, Nat.mod-lt, Nat.mod-eq-of-lt, Omega.arith}
-use lib.{IntN.ℤ, Pow.shr-shr}
+use native.Mathlib.{Nat.zero-add, Omega.arith}
+use lib.{IntN.ℤ, ListN.getD, Pow.shr-shr}
 use Rattle.octets.specs.Digits.{number, numberAfter, digits}
-use Rattle.octets.proofs.Numbers.{Below, digits-number, number-digits}
-use Rattle.samples.specs.Words.{signed, unsigned, turned, wordsOf, bytesOfAll}
+use Rattle.octets.proofs.Numbers.{Below, digits-number}
+use Rattle.samples.specs.Words.{signed, unsigned, turned, swapped, wordsOf, bytesOfAll}
+use Rattle.samples.proofs.Reversed.{digits-below, back-digits, swapped-digits}
 
 pub four-below : {a b c d : ℕ} → a < 65536 → b < 65536 → c < 65536 → d < 65536 → Below 65536 (a ∷ b ∷ c ∷ d ∷ [])
 four-below ha hb hc hd zero = ha
@@ -23,19 +24,8 @@ turned-number a b c d ha hb hc hd =
     (digits-number 65536 (omega arith) (a ∷ b ∷ c ∷ d ∷ []) (four-below ha hb hc hd))
 
 pub turned-digits : (x : ℕ) → digits 65536 4 (turned x) ≡ reverse (digits 65536 4 x)
-unfolding turned digits
-turned-digits x =
-    digits-number 65536 (omega arith) (reverse (digits 65536 4 x)) (four-below (word 0) (word 1) (word 2) (word 3))
-  where
-    word : (n : ℕ) → x / 65536 ^ n % 65536 < 65536
-    word n = mod-lt (x / 65536 ^ n) (omega arith)
-
--- to turn a word of 64 bits twice is to have it back
-pub turned-twice : (x : ℕ) → x < 2 ^ 64 → turned (turned x) ≡ x
-unfolding turned digits
-turned-twice x h =
-    ap (λ (l : List ℕ). number 65536 (reverse l)) (turned-digits x) ∙ number-digits 65536 (omega arith) 4 x
-    ∙ mod-eq-of-lt h
+unfolding turned
+turned-digits x = back-digits 65536 4 x (omega arith)
 
 -- two bytes next to each other are the word that begins where the second does
 pub two-bytes : (x k : ℕ) → x / 2 ^ (k + 8) % 256 * 256 + x / 2 ^ k % 256 ≡ x / 2 ^ k % 65536
@@ -43,6 +33,48 @@ two-bytes x k = ap (λ (y : ℕ). y % 256 * 256 + x / 2 ^ k % 256) (sym (shr-shr
   where
     split : (y : ℕ) → y / 256 % 256 * 256 + y % 256 ≡ y % 65536
     split y = omega arith
+
+-- a turned word, by its bytes
+pub turned-pairs : (x : ℕ)
+    → number 65536
+    ((x / 2 ^ 8 % 256 * 256 + x / 2 ^ 0 % 256) ∷ (x / 2 ^ 24 % 256 * 256 + x / 2 ^ 16 % 256) ∷
+    (x / 2 ^ 40 % 256 * 256 + x / 2 ^ 32 % 256) ∷ (x / 2 ^ 56 % 256 * 256 + x / 2 ^ 48 % 256) ∷ [])
+    ≡ turned x
+unfolding turned digits
+turned-pairs x = λ i. number 65536 (two-bytes x 0 i ∷ two-bytes x 16 i ∷ two-bytes x 32 i ∷ two-bytes x 48 i ∷ [])
+
+in-bytes : (a b c d e f g h : ℕ)
+    → number 65536 ((a * 256 + b) ∷ (c * 256 + d) ∷ (e * 256 + f) ∷ (g * 256 + h) ∷ [])
+    ≡ number 256 (a ∷ b ∷ c ∷ d ∷ e ∷ f ∷ g ∷ h ∷ [])
+unfolding numberAfter
+in-bytes a b c d e f g h = omega arith
+
+-- eight bytes with their pairs in the other order
+abbrev places : List ℕ
+places = 6 ∷ 7 ∷ 4 ∷ 5 ∷ 2 ∷ 3 ∷ 0 ∷ 1 ∷ []
+
+abbrev pairsBack : List ℕ → List ℕ
+pairsBack l = map (λ i. getD l i 0) places
+
+turned-bytes : (x : ℕ) → turned x ≡ number 256 (pairsBack (digits 256 8 x))
+unfolding digits
+turned-bytes x = sym (turned-pairs x) ∙ in-bytes _ _ _ _ _ _ _ _
+
+below-picked : (l : List ℕ) → Below 256 l → (some : List ℕ) → Below 256 (map (λ i. getD l i 0) some)
+below-picked l b [] i = omega arith
+below-picked l b (place ∷ some) zero = b place
+below-picked l b (place ∷ some) (suc i) = below-picked l b some i
+
+-- it is the same which comes first: all bytes in the other order, or the words
+pub turned-swapped : (x : ℕ) → turned (swapped x) ≡ swapped (turned x)
+unfolding swapped digits
+turned-swapped x =
+    let pairs : List ℕ = pairsBack (digits 256 8 x) in
+    turned-bytes (swapped x)
+    ∙ ap (λ (l : List ℕ). number 256 (pairsBack l)) (swapped-digits x)
+    ∙ ap (λ (l : List ℕ). number 256 (reverse l))
+    (sym (digits-number 256 (omega arith) pairs (below-picked (digits 256 8 x) (digits-below 256 8 x (omega arith)) places)))
+    ∙ ap swapped (sym (turned-bytes x))
 
 -- samples' bytes make the number that their 16 bits make
 pub words-number : (before : ℕ) (zs : List ℤ) → Below 65536 (map unsigned zs)

@@ -25,6 +25,10 @@ bytesOf z = digits 256 2 (unsigned z)
 unfoldable pub turned : ℕ → ℕ
 turned x = number 65536 (reverse (digits 65536 4 x))
 
+-- the eight bytes of a number in the other order
+unfoldable pub swapped : ℕ → ℕ
+swapped x = number 256 (reverse (digits 256 8 x))
+
 -- the samples that a run of bytes is, two bytes each
 unfoldable pub wordsOf : List ℕ → List ℤ
 wordsOf [] = []

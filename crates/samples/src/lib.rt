@@ -1,7 +1,5 @@
 ghost use mathlib.Core.Path.{_≡_};
-ghost use mathlib.Core.List.{reverse};
-ghost use Rattle.octets.specs.Digits.{number, digits};
-ghost use Rattle.samples.specs.Words.{signed, wordOf, unsigned, turned};
+ghost use Rattle.samples.specs.Words.{signed, wordOf, unsigned, turned, swapped};
 
 // The sample that 16 bits stand for.
 pub fn sample(n: u16) -> i16
@@ -31,8 +29,8 @@ pub fn bits(sample: i16) -> u16
 }
 
 // The bytes of a word in the other order.
-fn swapped(word: u64) -> u64
-    ensures { λ r. ⌜ r ≡ number 256 (reverse (digits 256 8 word)) ⌝ }
+pub fn swapped(word: u64) -> u64
+    ensures { λ r. ⌜ r ≡ swapped word ⌝ }
 {
     let first = (word >> 56) % 256;
     let second = (word >> 48) % 256;
@@ -47,14 +45,12 @@ fn swapped(word: u64) -> u64
     upper * 4294967296 + lower
 }
 
-// The four samples of a word in the other order: all bytes change places, and then those of each pair once more.
-// Written so, the compiler stores and loads four samples at once; it does not if each is taken out of the word by
-// itself.
-pub fn turned(word: u64) -> u64
-    ensures { λ r. ⌜ r ≡ turned word ⌝ }
+// The two bytes of each pair in the other order: as if all eight were, and then the four pairs. Written so, the compiler
+// stores and loads four samples at once; it does not if each is taken out of the word by itself.
+pub fn swapped_in_pairs(word: u64) -> u64
+    ensures { λ r. ⌜ r ≡ turned (swapped word) ⌝ }
 {
-    let swapped = swapped(word);
-    let even = swapped & 0x00ff00ff00ff00ff;
-    let odd = (swapped >> 8) & 0x00ff00ff00ff00ff;
+    let even = word & 0x00ff00ff00ff00ff;
+    let odd = (word >> 8) & 0x00ff00ff00ff00ff;
     even * 256 + odd
 }

@@ -1,9 +1,9 @@
 -- Steps of the record: what is packed stands for the state that it was packed from, so laws of states are its laws.
-use mathlib.Core.{Path._≡_, Path.sym, Path.ap, Path._∙_, List.List}
-use Prim.Native.Nat.{ℕ, _+_, _*_}
+use mathlib.Core.{Path._≡_, Path.sym, Path.ap, Path.subst, Path._∙_, List.List}
+use Prim.Native.Nat.{ℕ, _+_, _*_, _^_, _<_}
 use Rattle.octets.specs.Digits.{number}
 use Rattle.taps.specs.{Keystream.bits, Registers.State, Registers.loaded, Registers.started, Registers.steps}
-use Rattle.taps.proofs.{Steps.held-words, Steps.held-moved, Strides.strode, Words.joined-apart}
+use Rattle.taps.proofs.{Steps.held-words, Steps.held-moved, Steps.bits-small, Strides.strode, Words.joined-apart}
 use Rattle.trivium.specs.Calls.{runningFrom, running, stopping, skipping}
 use Rattle.trivium.specs.{Record.state, Record.packed, declared.Ran.Ran, declared.Registers.Registers}
 use Rattle.trivium.specs.declared.Running.{Running}
@@ -29,6 +29,10 @@ state-steps n r = state-packed (steps n (state r)) (held-steps n (state r) (held
 pub state-started : (key iv : List ℕ) → state (packed (started key iv)) ≡ started key iv
 state-started key iv = state-packed (started key iv) (held-moved 1151 (loaded key iv))
 
+-- steps are counted by whoever takes them; what is owed says how many they are
+pub so-many : (s : State) (n : ℕ) {m : ℕ} {t : State} → t ≡ steps m s → m ≡ n → t ≡ steps n s
+so-many s n e same = e ∙ ap (λ (k : ℕ). steps k s) same
+
 -- ---- whole bytes passed over
 
 pub state-skip : (r : Registers) (n : ℕ) → state (skipping r n) ≡ steps (8 * n) (state r)
@@ -40,6 +44,10 @@ pub skip-from : (r now : Registers) (n m : ℕ) → state now ≡ steps (8 * n) 
     → skipping now m ≡ skipping r (n + m)
 unfolding skipping
 skip-from r now n m e = ap packed (ap (steps (8 * m)) e ∙ sym (steps-bytes n m (state r)))
+
+pub skips-on : (r now : Registers) (n rest : ℕ) {m : ℕ} {last : Registers} → state now ≡ steps (8 * n) (state r)
+    → last ≡ skipping now m → m ≡ rest → last ≡ skipping r (n + rest)
+skips-on r now n rest e last same = last ∙ ap (skipping now) same ∙ skip-from r now n rest e
 
 pub skip-add : (r : Registers) (n m : ℕ) → skipping (skipping r n) m ≡ skipping r (n + m)
 skip-add r n m = skip-from r (skipping r n) n m (state-skip r n)
@@ -57,6 +65,9 @@ run-stopped w r e = ap state e ∙ state-packed (state (w .registers)) (held-sta
 pub ran-word : (w : Running) (r : Ran) → r ≡ running w → r .word ≡ number 2 (bits 64 (state (w .registers)))
 unfolding running
 ran-word w r e = ap (λ (x : Ran). x .word) e
+
+pub ran-below : (w : Running) (r : Ran) → r ≡ running w → r .word < 2 ^ 64
+ran-below w r e = subst (λ (n : ℕ). n < 2 ^ 64) (sym (ran-word w r e)) (bits-small 64 (state (w .registers)))
 
 -- what an upper word keeps of bits that the cipher is done with counts for nothing
 pub ran-state : (w : Running) (r : Ran) → r ≡ running w → state (r .next .registers) ≡ steps 64 (state (w .registers))

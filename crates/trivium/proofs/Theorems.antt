@@ -1,5 +1,5 @@
 -- What the public calls' definitions come to. Each theorem rests on the laws of steps and of bytes under any keystream.
-use mathlib.Core.{Path._≡_, Path.refl, Path.sym, Path.ap, Path._∙_, List.List, List._∷_, List._++_}
+use mathlib.Core.{Path._≡_, Path.refl, Path.sym, Path.ap, Path.subst, Path._∙_, List.List, List._∷_, List._++_}
 use Prim.Native.Nat.{ℕ, zero, suc, _+_, _*_, _^_, _<_, _≤_}
 use native.Mathlib.Omega.{arith}
 use lib.{ListN.length, ListN.take, ListN.drop, ListN.length-append, ListN.length-drop, Pow.shr-lt}
@@ -13,14 +13,19 @@ use Rattle.taps.proofs.{Bytes.keystream-from, Steps.Held, Steps.held-steps, Ste
 use Rattle.trivium.specs.{Engines.plainly, Engines.plainBits, Record.state, Record.packed, Record.Clean}
 use Rattle.trivium.specs.{declared.Enciphered.Enciphered, declared.Made.Made, declared.Registers.Registers}
 use Rattle.trivium.specs.{declared.Running.Running, Calls.refusedMaking, Calls.makeFaults, Calls.makingCipher}
-use Rattle.trivium.specs.Calls.{stepping, striding, running, stopping, skipping, encipherFaults, enciphering}
-use Rattle.trivium.proofs.Steps.{held-state, state-steps, state-skip, skip-add, ran-word, ran-state}
+use Rattle.trivium.specs.Calls.{makingAt, stepping, striding, running, stopping, skipping, encipherFaults}
+use Rattle.trivium.specs.Calls.{enciphering}
+use Rattle.trivium.proofs.Steps.{held-state, state-packed, state-steps, state-skip, skip-add, ran-word, ran-state}
 
 -- ---- a refused call leaves everything as given
 
 pub making-leaves : (key iv : List ℕ) → Leaves (λ m. m .refusal) refusedMaking (makingCipher key iv)
 unfolding makingCipher
 making-leaves key iv = settled-leaves _ _ _ (λ m. m .refusal) refl (λ n. refl)
+
+pub making-at-leaves : (key iv : List ℕ) (n : ℕ) → Leaves (λ m. m .refusal) refusedMaking (makingAt key iv n)
+unfolding makingAt
+making-at-leaves key iv n = settled-leaves _ _ _ (λ m. m .refusal) refl (λ n. refl)
 
 pub enciphering-leaves : (r : Registers) (input output : List ℕ)
     → Leaves (λ o. o .answer .refusal) (λ n. outcome (record { refusal = n; next = r }) output)
@@ -33,6 +38,26 @@ pub makes : (key iv : List ℕ) → length key ≡ 10 → length iv ≡ 10
     → makingCipher key iv ≡ record { refusal = accepted; registers = packed (started key iv) }
 unfolding makingCipher
 makes key iv ten teni = sym (done-if _ _ _ (ten, (teni, tt)))
+
+-- ---- made and moved on
+
+-- by no stride: just made
+pub made-at-none : (key iv : List ℕ) {n : ℕ} → n ≡ 0 → makingAt key iv n ≡ makingCipher key iv
+unfolding makingAt makingCipher steps
+made-at-none key iv none = ap (makingAt key iv) none
+
+pub makes-at : (key iv : List ℕ) (n : ℕ) → length key ≡ 10 → length iv ≡ 10
+    → makingAt key iv n ≡ record { refusal = accepted; registers = packed (steps (64 * n) (started key iv)) }
+unfolding makingAt
+makes-at key iv n ten teni = sym (done-if _ _ _ (ten, (teni, tt)))
+
+held-started : (key iv : List ℕ) → Held (started key iv)
+held-started key iv = held-moved 1151 (loaded key iv)
+
+-- it stands where the cipher comes to by so many strides
+pub moved-on : (key iv : List ℕ) (n : ℕ)
+    → state (packed (steps (64 * n) (started key iv))) ≡ steps (64 * n) (started key iv)
+moved-on key iv n = state-packed _ (held-steps (64 * n) (started key iv) (held-started key iv))
 
 -- ---- both engines
 
@@ -93,12 +118,15 @@ clean-steps : (n : ℕ) (r : Registers) → Clean (packed (steps n (state r)))
 clean-steps n r = clean (steps n (state r)) (held-steps n (state r) (held-state r))
 
 -- they come back zero from every call that isn't refused, whatever they were
-pub clean-made : (key iv : List ℕ) → Clean (makingCipher key iv .registers)
-unfolding makingCipher
-clean-made key iv =
+pub clean-made-at : (key iv : List ℕ) (n : ℕ) → Clean (makingAt key iv n .registers)
+unfolding makingAt
+clean-made-at key iv n =
     by-settled (makeFaults key iv) _ _ (λ (m : Made). Clean (m .registers))
-    (λ e. clean (started key iv) (held-moved 1151 (loaded key iv)))
+    (λ e. clean _ (held-steps (64 * n) (started key iv) (held-started key iv)))
     (λ n e h. record { a = omega arith; b = omega arith; c = omega arith })
+
+pub clean-made : (key iv : List ℕ) → Clean (makingCipher key iv .registers)
+clean-made key iv = subst (λ (m : Made). Clean (m .registers)) (made-at-none key iv refl) (clean-made-at key iv 0)
 
 pub clean-stepped : (r : Registers) → Clean (stepping r .next)
 unfolding stepping steps

@@ -26,6 +26,13 @@ unfoldable pub makingCipher : List ℕ → List ℕ → Made
 makingCipher key iv =
     settled (makeFaults key iv) (record { refusal = accepted; registers = packed (started key iv) }) refusedMaking
 
+-- the same, moved on by n strides
+unfoldable pub makingAt : List ℕ → List ℕ → ℕ → Made
+makingAt key iv n =
+    settled (makeFaults key iv)
+    (record { refusal = accepted; registers = packed (steps (64 * n) (started key iv)) })
+    refusedMaking
+
 -- one bit, the plain reading
 unfoldable pub stepping : Registers → Stepped
 stepping r = record { bit = outputBit (state r); next = packed (next (state r)) }

@@ -1,11 +1,11 @@
 ghost use mathlib.Core.Path.{_≡_};
-ghost use Prim.Native.Nat.{_+_, _*_, _<_, _≤_};
+ghost use Prim.Native.Nat.{_+_, _*_, _≤_, min};
 ghost use lib.ListN.{length};
 ghost use Rattle.refusals.specs.Outcome.{outcome};
-ghost use Rattle.taps.specs.Registers.{steps, loaded, warmUp};
+ghost use Rattle.taps.specs.Registers.{steps, loaded};
 ghost use Rattle.taps.specs.Words.{newest};
-ghost use Rattle.trivium.specs.Calls.{refusedMaking, makingCipher, stepping, strides, striding, skipping};
-ghost use Rattle.trivium.specs.Calls.{runningFrom, running, stopping, partEnciphered, enciphering};
+ghost use Rattle.trivium.specs.Calls.{refusedMaking, makingCipher, makingAt, stepping, strides, striding};
+ghost use Rattle.trivium.specs.Calls.{skipping, runningFrom, running, stopping, partEnciphered, enciphering};
 ghost use Rattle.trivium.specs.Record.{state, packed};
 
 // The 288 bits: a register's upper bits stand in its word 1 and its 64 newest in its word 0, the newest of all as the
@@ -56,7 +56,8 @@ pub const KEY_BYTES: usize = 10;
 
 pub const VALUE_BYTES: usize = 10;
 
-const WARM_UP: usize = 1152;
+// The blank rounds, as strides.
+const WARM_UP: usize = 18;
 
 // One more than the highest number that a register's upper word holds of it: 29 of 93 bits, 20 of 84 and 47 of 111.
 const A_TOP: u64 = 536870912;
@@ -100,10 +101,24 @@ fn refused_making(number: u8) -> Made
     }
 }
 
+fn at_most_eight(n: usize) -> usize
+    ensures { λ r. ⌜ r ≡ min n 8 ⌝ }
+{
+    if n < 8 { n } else { 8 }
+}
+
 impl Registers {
     // A cipher, warmed up, from a key and an initial value of ten bytes each.
     pub fn new(key: &[u8], iv: &[u8]) -> Made
         ensures { λ r. ⌜ r ≡ makingCipher (now (key .entry)) (now (iv .entry)) ⌝ }
+    {
+        Registers::new_at(key, iv, 0)
+    }
+
+    // The same, moved on by so many strides. Blank rounds and rounds passed over are one loop: with a count that it
+    // can't see, the compiler keeps one copy of it for whoever makes a cipher.
+    pub fn new_at(key: &[u8], iv: &[u8], strides: u32) -> Made
+        ensures { λ r. ⌜ r ≡ makingAt (now (key .entry)) (now (iv .entry)) strides ⌝ }
     {
         if key.len() != KEY_BYTES {
             return refused_making(refusals::BAD_KEY);
@@ -111,24 +126,14 @@ impl Registers {
         if iv.len() != VALUE_BYTES {
             return refused_making(refusals::BAD_VALUE);
         }
+        let start = Running {
+            registers: load(key, iv),
+        };
+        let passed = start.pass(WARM_UP + (strides as usize));
         Made {
             refusal: refusals::ACCEPTED,
-            registers: load(key, iv).warmed_up(),
+            registers: passed.stop(),
         }
-    }
-
-    // The blank rounds, by the plain engine.
-    fn warmed_up(self) -> Registers
-        ensures { λ r. ⌜ r ≡ packed (steps warmUp (state self)) ⌝ }
-    {
-        let mut registers = self;
-        let mut done = 0;
-        while done < WARM_UP {
-            let stepped = registers.step();
-            registers = stepped.next;
-            done += 1;
-        }
-        registers
     }
 
     // n bits and n steps, by what the taps give for them. The upper words move up, and spare bits go.
@@ -187,30 +192,31 @@ impl Registers {
     pub fn skip(self, bytes: usize) -> Registers
         ensures { λ r. ⌜ r ≡ skipping self bytes ⌝ }
     {
-        let mut registers = self;
-        let mut left = bytes;
-        while 8 <= left {
-            let strode = registers.stride();
-            registers = strode.next;
-            left -= 8;
-        }
-        let last = registers.short_stride(left);
+        let run = Running { registers: self };
+        let passed = run.pass(bytes / 8);
+        let registers = passed.registers;
+        let last = registers.short_stride(bytes % 8);
         last.next
     }
 
-    // What is left behind the sixteens: eight bytes or none of them, and the bytes behind those.
+    // So many bytes from `at`, eight or what is left of them at a turn: the few behind the sixteens.
     fn encipher_rest(self, input: &[u8], output: &mut [u8], at: usize, bytes: usize) -> Registers
-        requires { ⌜ (bytes < 16) × (at + bytes ≤ length (now input)) × (at + bytes ≤ length (now output)) ⌝ }
+        requires { ⌜ (at + bytes ≤ length (now input)) × (at + bytes ≤ length (now output)) ⌝ }
         ensures { λ r. ⌜ (r ≡ skipping self bytes)
             × (now (output .exit) ≡ partEnciphered self (now (input .entry)) (now (output .entry)) at bytes) ⌝ }
     {
-        let tail = bytes % 8;
-        let whole = bytes - tail;
-        let one = self.short_stride(whole);
-        octet_writer::cover(input, output, at, whole, one.word);
-        let two = one.next.short_stride(tail);
-        octet_writer::cover(input, output, at + whole, tail, two.word);
-        two.next
+        let end = at + bytes;
+        let mut registers = self;
+        let mut left = bytes;
+        while 0 < left {
+            let n = at_most_eight(left);
+            let strode = registers.short_stride(n);
+            octet_writer::cover(input, output, end - left, n, strode.word);
+            registers = strode.next;
+            left -= n;
+        }
+        let run = Running { registers };
+        run.stop()
     }
 
     // The input under the keystream, to the front of the output.
@@ -284,6 +290,20 @@ impl Running {
                 },
             },
         }
+    }
+
+    // So many strides whose bits nobody takes.
+    fn pass(self, strides: usize) -> Running
+        ensures { λ r. ⌜ state (r .registers) ≡ steps (64 * strides) (state (self .registers)) ⌝ }
+    {
+        let mut running = self;
+        let mut left = strides;
+        while 0 < left {
+            let ran = running.stride();
+            running = ran.next;
+            left -= 1;
+        }
+        running
     }
 
     // Sixteen bytes from `at`. After two strides each word of the registers is back in its place: a loop of these moves

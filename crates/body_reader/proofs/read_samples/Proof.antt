@@ -18,7 +18,7 @@ read s body output at = put output 0 (wordsOf (enciphered (keystream s) (take at
 
 abbrev Inv-loop : tie.InvT-loop
 Inv-loop body output₀ n running₀ at₀ output running at =
-    (at ≤ length body) × (at % 2 ≡ 0) × (length output ≡ length output₀)
+    (at ≤ length body) × (at % 16 ≡ 0) × (length output ≡ length output₀)
     × (state (running .registers) ≡ steps (8 * at) (state (running₀ .registers)))
     × (output ≡ read (state (running₀ .registers)) body output₀ at)
 
@@ -65,8 +65,7 @@ loop-again c =
       m .read-chunk .ensures .0 ∙ ap (steps 128) (l .inv .3) ∙ sym (steps-bytes (l .at) 16 s),
       m .read-chunk .ensures .1
           ∙ further s (state (l .running .registers)) (p .body .now) (p .output .now) (l .output) (l .at) 16
-          (l .inv .1) (omega arith)
-          (omega arith) (l .inv .3) (l .inv .4),
+          (omega arith) (omega arith) (omega arith) (l .inv .3) (l .inv .4),
     )
 
 same-length : tie.Need-same-length Inv-loop μ-loop
@@ -81,9 +80,9 @@ returns-2 c =
     let p = begun .before .before .before .args in
     let s : State = state (begun .of .result .registers) in
     let n : ℕ = length (p .body .now) in
-    let whole : l .at + (n - l .at) ≡ n = omega arith in
+    let whole : l .at + n % 16 ≡ n = omega arith in
     m .read-rest .ensures
-    ∙ further s (state (last .stop .result)) (p .body .now) (p .output .now) (l .output) (l .at) (n - l .at) (l .inv .1)
+    ∙ further s (state (last .stop .result)) (p .body .now) (p .output .now) (l .output) (l .at) (n % 16) (omega arith)
     (omega arith) (omega arith) (run-stopped (l .running) _ (last .stop .ensures) ∙ l .inv .3) (l .inv .4)
     ∙ ap (read s (p .body .now) (p .output .now)) whole
     ∙ ap₂ (λ (s : State) (l : List ℕ). put (p .output .now) 0 (wordsOf (enciphered (keystream s) l)))
@@ -93,5 +92,4 @@ pub read-samples-spec : {M : Type 1} → statement M
 read-samples-spec =
     tie.close
     (tie.spec Inv-loop μ-loop returns (λ c κs. tt) loop-holds (λ c. omega arith) (λ c κs. omega arith)
-    (λ c. omega arith) (λ c. omega arith) loop-again (λ c κs. tt) (λ c. omega arith) (λ c κs. omega arith) same-length
-    returns-2)
+    (λ c. omega arith) (λ c. omega arith) loop-again (λ c κs. tt) (λ c κs. omega arith) same-length returns-2)

@@ -1,5 +1,5 @@
--- `body_writer::four_bits` meets its contract: four samples' 16 bits, put together from the lowest on and turned, make
--- the number of all eight bytes.
+-- `body_writer::four_bits` meets its contract: four samples' 16 bits, put together from the lowest on, with each pair
+-- of bytes swapped, make the number of all eight bytes in the other order.
 use mathlib.Core.{Path._≡_, Path.ap, Path._∙_, List.List, List.[], List._∷_}
 use Prim.Native.Nat.{ℕ, _+_, _*_, _<_}
 use native.Mathlib.Omega.{arith}
@@ -10,8 +10,8 @@ use mir.Val.{toZ, ofZ}
 use mir.ValLaws.{toZ-ofZ}
 use Rattle.octets.specs.Digits.{number, numberAfter}
 use Rattle.octets.proofs.Slices.{slice-read}
-use Rattle.samples.specs.Words.{unsigned, turned, bytesOfAll}
-use Rattle.samples.proofs.FourWords.{four-below, turned-number, words-number}
+use Rattle.samples.specs.Words.{unsigned, turned, swapped, bytesOfAll}
+use Rattle.samples.proofs.FourWords.{four-below, turned-number, turned-swapped, words-number}
 use Rattle.body_writer.proofs.four_bits.Statement.{statement}
 use Rattle.body_writer.proofs.four_bits.Tie as tie
 
@@ -40,12 +40,14 @@ returns c =
     let second = read (getD zs (p .from + 1) (pos 0)) (two .before .bits-arg2 .given) (two .bits2 .ensures) in
     let third = read (getD zs (p .from + 2) (pos 0)) (three .before .bits-arg3 .given) (three .bits3 .ensures) in
     let fourth = read (getD zs (p .from + 3) (pos 0)) (four .before .bits-arg4 .given) (four .bits4 .ensures) in
-    c .turned .ensures
-    ∙ ap turned (lowest-first x₀ x₁ x₂ x₃)
+    c .swapped-in-pairs .ensures
+    ∙ turned-swapped _
+    ∙ ap swapped
+    (ap turned (lowest-first x₀ x₁ x₂ x₃)
     ∙ turned-number x₃ x₂ x₁ x₀ (omega arith) (omega arith) (omega arith) (omega arith)
     ∙ (λ i. number 65536 (first i ∷ second i ∷ third i ∷ fourth i ∷ []))
     ∙ words-number 0 _ (four-below (omega arith) (omega arith) (omega arith) (omega arith))
-    ∙ ap (λ (l : List ℤ). number 256 (bytesOfAll l)) (slice-read zs (p .from) 3 (pos 0) (one .before .before .pre))
+    ∙ ap (λ (l : List ℤ). number 256 (bytesOfAll l)) (slice-read zs (p .from) 3 (pos 0) (one .before .before .pre)))
 
 pub four-bits-spec : {M : Type 1} → statement M
 four-bits-spec =

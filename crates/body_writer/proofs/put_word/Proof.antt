@@ -1,10 +1,12 @@
--- `body_writer::put_word` meets its contract: stores in a row are a run in its place, and the run is the word's digits.
-use mathlib.Core.{Path._≡_, Path.sym, Path._∙_, List.List}
-use Prim.Native.Nat.{ℕ, _/_, _%_, _^_}
+-- `body_writer::put_word` meets its contract: stores in a row are a run in its place, and the run is
+-- the word's digits in the other order.
+use mathlib.Core.{Path._≡_, Path.sym, Path.ap, Path._∙_, List.List, List.reverse}
+use Prim.Native.Nat.{ℕ, _/_, _%_}
 use native.Mathlib.Omega.{arith}
 use lib.ListN.{drop, length-set}
-use Rattle.octets.specs.Digits.{digits}
+use Rattle.octets.specs.{Buffers.put, Digits.digits}
 use Rattle.octets.proofs.Buffers.{placed-stores, put-placed}
+use Rattle.samples.proofs.Reversed.{swapped-digits}
 use Rattle.body_writer.proofs.put_word.Statement.{statement}
 use Rattle.body_writer.proofs.put_word.Tie as tie
 
@@ -17,9 +19,10 @@ unfolding digits
 returns c =
     let d : List ℕ = c .args .output .now in
     let v : ℕ = c .args .word in
-    rw (whole v)
-    (placed-stores d (c .args .at) (v / 2 ^ 56 % 256) (drop 1 (digits 256 8 v)) (c .pre)
-    ∙ sym (put-placed d (c .args .at) (digits 256 8 v) (c .pre)))
+    let bytes : List ℕ = reverse (digits 256 8 v) in
+    rw (whole v) (placed-stores d (c .args .at) (v / 1 % 256) (drop 1 bytes) (c .pre))
+    ∙ sym (put-placed d (c .args .at) bytes (c .pre))
+    ∙ ap (put d (c .args .at)) (sym (swapped-digits v))
 
 pub put-word-spec : {M : Type 1} → statement M
 put-word-spec =

@@ -19,7 +19,7 @@ written s output at samples = put output at (enciphered (keystream s) (bytesOfAl
 
 abbrev Inv-loop : tie.InvT-loop
 Inv-loop samples output₀ at n running₀ done₀ output running done =
-    (done ≤ n) × (done % 2 ≡ 0) × (length output ≡ length output₀)
+    (done ≤ n) × (done % 16 ≡ 0) × (length output ≡ length output₀)
     × (state (running .registers) ≡ steps (8 * done) (state (running₀ .registers)))
     × (output ≡ written (state (running₀ .registers)) output₀ at (take (done / 2) samples))
 
@@ -84,8 +84,7 @@ loop-again c =
       w .write-chunk .ensures .0 ∙ ap (steps 128) (l .inv .3) ∙ sym (steps-bytes (l .done) 16 s),
       w .write-chunk .ensures .1
           ∙ further s (state (l .running .registers)) (p .samples .now) more (p .output .now) (l .output) (p .at)
-          (l .done) (l .inv .1)
-          (omega arith) (omega arith) (l .inv .3) (l .inv .4)
+          (l .done) (omega arith) (omega arith) (omega arith) (l .inv .3) (l .inv .4)
           ∙ ap (written s (p .output .now) (p .at))
           (sym (take-add (l .done / 2) 8 (p .samples .now)) ∙ ap (λ (n : ℕ). take n (p .samples .now)) on),
     )
@@ -103,13 +102,27 @@ returns-3 c =
     let count = length-drop (l .done / 2) (p .samples .now) in
     w .write-rest .ensures
     ∙ further s (state (l .running .registers)) (p .samples .now) (drop (l .done / 2) (p .samples .now))
-    (p .output .now) (l .output) (p .at) (l .done) (l .inv .1) (omega arith) (omega arith) (l .inv .3) (l .inv .4)
+    (p .output .now) (l .output) (p .at) (l .done) (omega arith) (omega arith) (omega arith) (l .inv .3) (l .inv .4)
     ∙ ap₂ (λ (s : State). written s (p .output .now) (p .at)) (run-begun (p .registers) _ (begun .of .ensures))
     (take-append-drop (l .done / 2) (p .samples .now))
+
+-- the samples behind the last chunk are the remainder
+behind : (done count : ℕ) → done % 16 ≡ 0 → done ≤ 2 * count → 2 * count < done + 16 → done / 2 + count % 8 ≡ count
+behind done count whole h more =
+    let chunks : ℕ = done / 16 in
+    let bytes : done ≡ 16 * chunks = omega arith in
+    let all : count / 8 ≡ chunks = omega arith in
+    omega arith
+
+write-rest-requires : tie.Need-write-rest-requires Inv-loop μ-loop
+write-rest-requires c κs =
+    let l = c .before .before .loop in
+    let p = c .before .before .before .before .before .before .before .args in
+    (behind (l .done) (length (p .samples .now)) (l .inv .1) (omega arith) (omega arith), omega arith)
 
 pub write-samples-spec : {M : Type 1} → statement M
 write-samples-spec =
     tie.close
     (tie.spec Inv-loop μ-loop (λ c. omega arith) returns (λ c. omega arith) returns-2 (λ c κs. tt) loop-holds
     (λ c. omega arith) (λ c. omega arith) (λ c κs. omega arith) (λ c. omega arith) (λ c. omega arith) loop-again
-    (λ c. omega arith) (λ c κs. omega arith) same-length returns-3)
+    (λ c. omega arith) write-rest-requires same-length returns-3)

@@ -2,11 +2,12 @@
 -- order.
 use borrow.Author.Needs.{needs}
 use Rattle.octets.specs.Digits.{numberAfter, digits}
+use Rattle.samples.specs.Words.{swapped}
 use Rattle.samples.proofs.swapped.Statement.{statement}
 use Rattle.samples.proofs.swapped.Tie as tie
 
 returns : tie.Need-returns
-unfolding numberAfter digits
+unfolding swapped numberAfter digits
 returns c = search needs
 
 pub swapped-spec : {M : Type 1} → statement M

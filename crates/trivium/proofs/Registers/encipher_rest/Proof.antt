@@ -1,41 +1,80 @@
--- `trivium::Registers::encipher_rest` meets its contract: the bytes behind the eight, or behind none, follow them.
-use mathlib.Core.Path.{_≡_, ap, _∙_}
-use Prim.Native.Nat.{ℕ, _+_, _-_, _*_, _%_}
+-- `trivium::Registers::encipher_rest` meets its contract: at each turn, the bytes still to come lead to what is owed.
+use mathlib.Core.{Path._≡_, Path.refl, Path.sym, Path.ap, Path._∙_, List.List}
+use Prim.Native.Nat.{ℕ, _+_, _-_, _*_, _≤_}
 use native.Mathlib.Omega.{arith}
 use borrow.Author.Needs.{needs}
+use lib.ListN.{length}
+use Rattle.octets.specs.{Buffers.put, Stream.enciphered}
+use Rattle.octets.proofs.{Buffers.placed-nothing, Streams.under}
 use Rattle.taps.specs.Registers.{steps}
-use Rattle.taps.proofs.Bytes.{two-covers}
-use Rattle.trivium.specs.{Calls.skipping, Calls.partEnciphered, Record.state}
+use Rattle.taps.proofs.{Bytes.run-written, Bytes.two-calls, Steps.steps-none}
+use Rattle.trivium.specs.{Calls.skipping, Calls.stopping, Calls.partEnciphered, Record.state, Record.packed}
 use Rattle.trivium.proofs.{Steps.state-skip, Steps.skip-from, Registers.encipher_rest.Statement.statement}
 use Rattle.trivium.proofs.Registers.encipher_rest.Tie as tie
 
-returns : tie.Need-returns
+abbrev Inv-loop : tie.InvT-loop
+Inv-loop input output₀ at bytes end registers₀ left₀ output registers left =
+    (left ≤ bytes) × (length output ≡ length output₀) × (skipping registers left ≡ skipping registers₀ bytes)
+    × (partEnciphered registers input output (end - left) left ≡ partEnciphered registers₀ input output₀ at bytes)
+
+abbrev μ-loop : tie.MeasureT-loop
+μ-loop input output₀ at bytes end registers₀ left₀ output registers left = left
+
+loop-holds : tie.Need-loop-holds Inv-loop μ-loop
+loop-holds c =
+    let p = c .before .before .args in
+    let from : ℕ → List ℕ = λ at. partEnciphered (p .self) (p .input .now) (p .output .now) at (p .bytes) in
+    (omega arith, refl, refl, ap from (omega arith))
+
+loop-again : tie.Need-loop-again Inv-loop μ-loop
 unfolding skipping
+loop-again c =
+    let covered = c .before .before .before in
+    let strode = covered .before .before in
+    let took = strode .before in
+    let l = took .before .before .loop in
+    let p = took .before .before .before .before .before .args in
+    let old = l .registers in
+    let mid = strode .short-stride .result .next in
+    let n : ℕ = took .at-most-eight .result in
+    let rest : ℕ = l .left - n in
+    let place : ℕ = p .at + p .bytes - l .left in
+    let few : n ≤ 8 = omega (arith, took .at-most-eight .ensures) in
+    let all : n + rest ≡ l .left = omega (arith, took .at-most-eight .ensures) in
+    let on : p .at + p .bytes - rest ≡ place + n = omega (arith, took .at-most-eight .ensures) in
+    let gone : state mid ≡ steps (8 * n) (state old) =
+    (λ i. state (strode .short-stride .ensures i .next)) ∙ state-skip old n in
+    let done =
+    covered .cover .ensures
+    ∙ ap (λ (w : ℕ). put (l .output) place (under (p .input .now) place n w)) (λ i. strode .short-stride .ensures i .word)
+    ∙ run-written (p .input .now) place n (state old) few (omega arith)
+    (λ i. omega (arith, took .before .before .before .before .shared-slice-known .given i)) (l .output) (omega arith) in (
+      omega arith,
+      covered .cover .kept .1 .0 ∙ l .inv .1,
+      skip-from old mid n rest gone ∙ ap (skipping old) all ∙ l .inv .2,
+      ap (λ (at : ℕ). partEnciphered mid (p .input .now) (covered .cover .last .1 .0) at rest) on
+          ∙ two-calls (state old) (state mid) (p .input .now) (l .output) (covered .cover .last .1 .0) place n rest
+          (omega arith) (omega arith) gone done
+          ∙ ap (partEnciphered old (p .input .now) (l .output) place) all
+          ∙ l .inv .3,
+    )
+
+returns : tie.Need-returns Inv-loop μ-loop
+unfolding skipping stopping enciphered
 returns c =
-    let second = c .before .before .before in
-    let two = second .before .before in
-    let first = two .before .before .before in
-    let one = first .before .before in
-    let p = one .before .before .before .args in
-    let tail : ℕ = p .bytes % 8 in
-    let whole : ℕ = p .bytes - tail in
-    let all : whole + tail ≡ p .bytes = omega arith in
-    let mid = one .short-stride .result .next in
-    let gone : state mid ≡ steps (8 * whole) (state (p .self)) =
-    (λ i. state (one .short-stride .ensures i .next)) ∙ state-skip (p .self) whole in (
-      (λ i. two .short-stride2 .ensures i .next)
-          ∙ skip-from (p .self) mid whole tail gone
-          ∙ ap (skipping (p .self)) all,
-      second .cover2 .ensures
-          ∙ two-covers (state (p .self)) (state mid) (p .input .now) (p .output .now) (first .cover .last .1 .0) (p .at)
-          whole tail _ _ (omega arith) (omega arith)
-          (λ i. omega (arith, one .before .before .shared-slice-known .given i)) (omega arith) (omega arith) gone
-          (λ i. one .short-stride .ensures i .word) (first .cover .ensures) (λ i. two .short-stride2 .ensures i .word)
-          ∙ ap (partEnciphered (p .self) (p .input .now) (p .output .now) (p .at)) all,
+    let l = c .before .before .loop in
+    let p = c .before .before .before .before .before .args in
+    let s = state (l .registers) in
+    let none : 0 ≡ l .left = omega arith in
+    let place : ℕ = p .at + p .bytes - l .left in (
+      c .stop .ensures ∙ ap packed (sym (steps-none s) ∙ ap (λ (n : ℕ). steps (8 * n) s) none) ∙ l .inv .2,
+      sym (placed-nothing (l .output) place)
+          ∙ ap (partEnciphered (l .registers) (p .input .now) (l .output) place) none
+          ∙ l .inv .3,
     )
 
 pub encipher-rest-spec : {M : Type 1} → statement M
 encipher-rest-spec =
     tie.close
-    (tie.spec (λ c. omega arith) (λ c κs. omega arith) (λ c κs. tt) (λ c κs. omega arith) (λ c. omega arith)
-    (λ c κs. tt) (λ c. search needs) returns)
+    (tie.spec Inv-loop μ-loop (λ c. omega arith) loop-holds (λ c κs. tt) (λ c κs. omega arith) (λ c. omega arith)
+    (λ c κs. tt) (λ c. omega arith) (λ c. omega arith) loop-again (λ c κs. tt) (λ c. search needs) returns)

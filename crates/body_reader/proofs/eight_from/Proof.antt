@@ -1,0 +1,31 @@
+-- `body_reader::eight_from` meets its contract: in the other order the second four come first.
+use mathlib.Core.{Path._≡_, Path.sym, Path.ap, Path.ap₂, Path._∙_, List.List, List.[], List.reverse, List.reverse-append}
+use Prim.Native.Nat.{ℕ, _+_, _*_, _^_}
+use native.Mathlib.Omega.{arith}
+use borrow.Author.Needs.{needs}
+use lib.ListN.{length}
+use Rattle.octets.specs.{Buffers.slice, Digits.number, Digits.numberAt}
+use Rattle.octets.proofs.{Numbers.Below, Numbers.number-append, Numbers.digits-read, Slices.length-slice, Slices.slice-add}
+use Rattle.samples.specs.Words.{swapped}
+use Rattle.samples.proofs.Reversed.{length-back}
+use Rattle.body_reader.proofs.eight_from.Statement.{statement}
+use Rattle.body_reader.proofs.eight_from.Tie as tie
+
+returns : tie.Need-returns
+unfolding swapped
+returns c =
+    let p = c .before .before .before .args in
+    let s : List ℕ = p .s .now in
+    let xs : List ℕ = slice s (p .at) 4 in
+    let ys : List ℕ = slice s (p .at + 4) 4 in
+    let bytes : Below 256 s = λ i. omega (arith, c .before .before .shared-slice-known .given i) in
+    let four : length (reverse xs) ≡ 4 = length-back xs [] ∙ omega (arith, length-slice s (p .at) 4 (omega arith)) in
+    ap₂ (λ (upper lower : ℕ). upper * 2 ^ 32 + lower) (c .four-from2 .ensures) (c .before .four-from .ensures)
+    ∙ ap (λ (n : ℕ). number 256 (reverse ys) * 256 ^ n + number 256 (reverse xs)) (sym four)
+    ∙ sym (number-append 256 (reverse ys) (reverse xs))
+    ∙ ap (number 256) (sym (reverse-append xs ys))
+    ∙ ap (λ (l : List ℕ). number 256 (reverse l))
+    (sym (slice-add s (p .at) 4 4) ∙ sym (digits-read s (p .at) 8 (omega arith) bytes))
+
+pub eight-from-spec : {M : Type 1} → statement M
+eight-from-spec = tie.close (tie.spec (λ c κs. search needs) (λ c. search needs) (λ c. search needs) (λ c κs. search needs) (λ c. search needs) (λ c. search needs) (λ c. search needs) returns)

@@ -1,0 +1,50 @@
+-- `body_reader::four_from` meets its contract: four bytes, each scaled by its place from the last on, make the number of
+-- the bytes in the other order.
+use mathlib.Core.{Path._≡_, Path.ap, Path._∙_, List.List, List.[], List._∷_, List.reverse}
+use Prim.Native.Nat.{ℕ, _+_, _*_, _<_}
+use native.Mathlib.Omega.{arith}
+use borrow.Author.Needs.{needs}
+use lib.ListN.{getD}
+use Rattle.octets.specs.Digits.{number, numberAfter}
+use Rattle.octets.proofs.{Numbers.Below, Slices.slice-read}
+use Rattle.body_reader.proofs.four_from.Statement.{statement}
+use Rattle.body_reader.proofs.four_from.Tie as tie
+
+four : (x y z w : ℕ) → w * 16777216 + z * 65536 + y * 256 + x ≡ number 256 (w ∷ z ∷ y ∷ x ∷ [])
+unfolding numberAfter
+four x y z w = omega arith
+
+-- the four that are read are bytes
+record Four (s : List ℕ) (at : ℕ) : Type 0 where
+  first : getD s at 0 < 256
+  second : getD s (at + 1) 0 < 256
+  third : getD s (at + 2) 0 < 256
+  fourth : getD s (at + 3) 0 < 256
+
+these : (c : tie.After-shared-slice-known4)
+    → let p = c .before .before .before .before .args in Four (p .s .now) (p .at)
+these c =
+    let p = c .before .before .before .before .args in
+    let byte : Below 256 (p .s .now) = λ i. omega (arith, c .shared-slice-known4 .given i) in
+    record { first = byte _; second = byte _; third = byte _; fourth = byte _ }
+
+returns : tie.Need-returns
+returns c =
+    let p = c .before .before .before .before .args in
+    let s : List ℕ = p .s .now in
+    four (getD s (p .at) 0) (getD s (p .at + 1) 0) (getD s (p .at + 2) 0) (getD s (p .at + 3) 0)
+    ∙ ap (λ (l : List ℕ). number 256 (reverse l)) (slice-read s (p .at) 3 0 (c .before .before .before .before .pre))
+
+pub four-from-spec : {M : Type 1} → statement M
+four-from-spec =
+    tie.close
+    (tie.spec (λ c. search needs) (λ c. omega (arith, c .shared-slice-known .given (c .before .args .at)))
+    (λ c. search needs)
+    (λ c. search needs) (λ c. omega (arith, c .shared-slice-known2 .given (c .before .before .args .at + 1)))
+    (λ c. search needs)
+    (λ c. search needs) (λ c. omega (arith, c .shared-slice-known3 .given (c .before .before .before .args .at + 2)))
+    (λ c. search needs) (λ c. search needs)
+    (λ c. omega (arith, c .shared-slice-known4 .given (c .before .before .before .before .args .at + 3)))
+    (λ c. omega (arith, these c)) (λ c. omega (arith, these c)) (λ c. omega (arith, these c))
+    (λ c. omega (arith, these c))
+    (λ c. omega (arith, these c)) (λ c. omega (arith, these c)) returns)
