@@ -22,9 +22,8 @@ fn four_bits(samples: &[i16], from: usize) -> u64
     let second = samples::bits(samples[from + 1]) as u64;
     let third = samples::bits(samples[from + 2]) as u64;
     let fourth = samples::bits(samples[from + 3]) as u64;
-    samples::swapped_in_pairs(
-        fourth * 281474976710656 + third * 4294967296 + second * 65536 + first,
-    )
+    let four = fourth * 281474976710656 + third * 4294967296 + second * 65536 + first;
+    samples::swapped_in_pairs(four)
 }
 
 // The eight bytes of a word, the least significant first, at their place: the compiler stores them as they stand.

@@ -67,7 +67,8 @@ module _ (b₀ b₁ b₂ b₃ b₄ b₅ b₆ b₇ : ℕ) (h₀ : b₀ < 256) (h�
       together = omega arith
 
 mul-result : tie.Need-mul-result
-mul-result c = record { fits = omega (arith, and-le-r (c .args .word) mask) }
+mul-result c =
+    record { fits = omega (arith, and-le-r (c .args .word) mask, and-le-r (c .args .word / 2 ^ 8) mask) }
 
 add-result : tie.Need-add-result
 add-result c =
