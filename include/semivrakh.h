@@ -78,8 +78,8 @@
 extern "C" {
 #endif
 
-/* The version of this header, 0.2.0: ten thousand times its first number, a hundred times its second, and its third. */
-#define SEMIVRAKH_VERSION 200
+/* The version of this header, 0.2.1: ten thousand times its first number, a hundred times its second, and its third. */
+#define SEMIVRAKH_VERSION 201
 
 /* The numbers for no. */
 enum {

@@ -10,10 +10,10 @@ use Rattle.link_status.proofs.tell_status.Statement.{statement}
 use Rattle.link_status.proofs.tell_status.Tie as tie
 
 returns : tie.Need-returns
-returns c = left-at _ _ _ 0 tt (not-true _ (c .if1 .taken))
+returns c = left-at _ _ _ 0 tt (search (needs, not-true))
 
 returns-2 : tie.Need-returns-2
-returns-2 c = left-at _ _ _ 1 tt (not-false _ (c .before .if1 .left), c .if2 .taken)
+returns-2 c = left-at _ _ _ 1 tt (search (needs, not-false), omega arith)
 
 returns-3 : tie.Need-returns-3
 returns-3 c =
