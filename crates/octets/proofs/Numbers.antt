@@ -32,6 +32,16 @@ below-drop {bound} n xs b i = subst (λ (x : ℕ). x < bound) (sym (getD-drop n 
 pub below-slice : {bound : ℕ} (xs : List ℕ) (at n : ℕ) → Below bound xs → Below bound (slice xs at n)
 below-slice xs at n b = below-take n (drop at xs) (below-drop at xs b)
 
+-- four elements next to each other
+pub record Four (bound : ℕ) (xs : List ℕ) (at : ℕ) : Type 0 where
+  pub first : getD xs at 0 < bound
+  pub second : getD xs (at + 1) 0 < bound
+  pub third : getD xs (at + 2) 0 < bound
+  pub fourth : getD xs (at + 3) 0 < bound
+
+pub below-four : {bound : ℕ} (xs : List ℕ) (at : ℕ) → Below bound xs → Four bound xs at
+below-four xs at b = record { first = b at; second = b (at + 1); third = b (at + 2); fourth = b (at + 3) }
+
 pub after-append : (base before : ℕ) (xs ys : List ℕ)
     → numberAfter base before (xs ++ ys) ≡ numberAfter base (numberAfter base before xs) ys
 unfolding numberAfter

@@ -1,12 +1,12 @@
 -- `body_reader::four_from` meets its contract: four bytes, each scaled by its place from the last on, make the number of
 -- the bytes in the other order.
 use mathlib.Core.{Path._≡_, Path.ap, Path._∙_, List.List, List.[], List._∷_, List.reverse}
-use Prim.Native.Nat.{ℕ, _+_, _*_, _<_}
+use Prim.Native.Nat.{ℕ, _+_, _*_}
 use native.Mathlib.Omega.{arith}
 use borrow.Author.Needs.{needs}
 use lib.ListN.{getD}
 use Rattle.octets.specs.Digits.{number, numberAfter}
-use Rattle.octets.proofs.{Numbers.Below, Slices.slice-read}
+use Rattle.octets.proofs.{Numbers.Four, Numbers.below-four, Slices.slice-read}
 use Rattle.body_reader.proofs.four_from.Statement.{statement}
 use Rattle.body_reader.proofs.four_from.Tie as tie
 
@@ -15,18 +15,9 @@ unfolding numberAfter
 four x y z w = omega arith
 
 -- the four that are read are bytes
-record Four (s : List ℕ) (at : ℕ) : Type 0 where
-  first : getD s at 0 < 256
-  second : getD s (at + 1) 0 < 256
-  third : getD s (at + 2) 0 < 256
-  fourth : getD s (at + 3) 0 < 256
-
 these : (c : tie.After-shared-slice-known4)
-    → let p = c .before .before .before .before .args in Four (p .s .now) (p .at)
-these c =
-    let p = c .before .before .before .before .args in
-    let byte : Below 256 (p .s .now) = λ i. omega (arith, c .shared-slice-known4 .given i) in
-    record { first = byte _; second = byte _; third = byte _; fourth = byte _ }
+    → let p = c .before .before .before .before .args in Four 256 (p .s .now) (p .at)
+these c = below-four _ _ (λ i. omega (arith, c .shared-slice-known4 .given i))
 
 returns : tie.Need-returns
 returns c =

@@ -1,11 +1,11 @@
 -- `octets::half_at` meets its contract: four bytes, each scaled by its place, make their number.
 use mathlib.Core.{Path._≡_, Path.ap, Path._∙_, List.List, List.[], List._∷_}
-use Prim.Native.Nat.{ℕ, _+_, _*_, _<_}
+use Prim.Native.Nat.{ℕ, _+_, _*_}
 use native.Mathlib.Omega.{arith}
 use borrow.Author.Needs.{needs}
 use lib.ListN.{getD}
 use Rattle.octets.specs.Digits.{number, numberAfter}
-use Rattle.octets.proofs.{Slices.slice-read, half_at.Statement.statement}
+use Rattle.octets.proofs.{Numbers.Four, Numbers.below-four, Slices.slice-read, half_at.Statement.statement}
 use Rattle.octets.proofs.half_at.Tie as tie
 
 four : (x y z w : ℕ) → x * 16777216 + y * 65536 + z * 256 + w ≡ number 256 (x ∷ y ∷ z ∷ w ∷ [])
@@ -13,22 +13,9 @@ unfolding numberAfter
 four x y z w = omega arith
 
 -- the four that are read are bytes
-record Four (s : List ℕ) (at : ℕ) : Type 0 where
-  first : getD s at 0 < 256
-  second : getD s (at + 1) 0 < 256
-  third : getD s (at + 2) 0 < 256
-  fourth : getD s (at + 3) 0 < 256
-
 these : (c : tie.After-shared-slice-known4)
-    → let p = c .before .before .before .before .args in Four (p .s .now) (p .at)
-these c =
-    let at : ℕ = c .before .before .before .before .args .at in
-    record {
-      first = omega (arith, c .shared-slice-known4 .given at);
-      second = omega (arith, c .shared-slice-known4 .given (at + 1));
-      third = omega (arith, c .shared-slice-known4 .given (at + 2));
-      fourth = omega (arith, c .shared-slice-known4 .given (at + 3));
-    }
+    → let p = c .before .before .before .before .args in Four 256 (p .s .now) (p .at)
+these c = below-four _ _ (λ i. omega (arith, c .shared-slice-known4 .given i))
 
 returns : tie.Need-returns
 returns c =
