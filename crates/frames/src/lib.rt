@@ -26,33 +26,51 @@ pub const HOLDS: u64 = 3;
 
 pub const TOO_LONG: u64 = 4;
 
-// What a message says.
+// What a message says. Its size is asked before its bytes are read, for the compiler to see that they are there.
 pub fn read(message: &[u8]) -> Told
     ensures { λ r. ⌜ r ≡ told (heard (now (message .entry))) ⌝ }
 {
     let size = message.len();
-    let kind = octets::number_at(message, 0, 1);
+    if size < 5 {
+        return Told::Nothing;
+    }
+    let kind = message[0] as u64;
     let session = octets::four_at(message, 1);
-    let sound = octets::four_at(message, 5);
+    if session == 0 {
+        return Told::Nothing;
+    }
+    if size == 5 {
+        if kind == TOO_LONG {
+            return Told::TooLong(session);
+        }
+        return Told::Nothing;
+    }
+    if size == 7 {
+        if kind == HOLDS {
+            return Told::Holds(session, octets::two_at(message, 5));
+        }
+        return Told::Nothing;
+    }
+    if size < 9 {
+        return Told::Nothing;
+    }
+    if kind == OPENING {
+        let sound = octets::four_at(message, 5);
+        if size == 9 {
+            if (sound as usize) <= blocks::MOST_BYTES {
+                return Told::Opening(session, sound);
+            }
+        }
+        return Told::Nothing;
+    }
     let number = octets::two_at(message, 5);
-    let count = octets::number_at(message, 7, 1) as usize;
-    if (kind == OPENING)
-        & (size == 9)
-        & ((1 <= session) & ((sound as usize) <= blocks::MOST_BYTES))
-    {
-        return Told::Opening(session, sound);
-    }
-    if (kind == BLOCK)
-        & (size == 8 + count)
-        & ((1 <= session) & ((1 <= count) & (count <= blocks::BLOCK_BYTES)))
-    {
-        return Told::Block(session, number, count);
-    }
-    if (kind == HOLDS) & (size == 7) & (1 <= session) {
-        return Told::Holds(session, number);
-    }
-    if (kind == TOO_LONG) & (size == 5) & (1 <= session) {
-        return Told::TooLong(session);
+    let count = message[7] as usize;
+    if kind == BLOCK {
+        if size == 8 + count {
+            if count <= blocks::BLOCK_BYTES {
+                return Told::Block(session, number, count);
+            }
+        }
     }
     Told::Nothing
 }

@@ -8,7 +8,7 @@ use native.Mathlib.Nat.{pow-le-pow-right}
 use native.Mathlib.Omega.{arith}
 use lib.Arith.{digits-lt, digits-div, digits-mod, mod-mul}
 use lib.ListN.{length, getD, take, drop, length-take}
-use lib.Seq.{getD-drop}
+use lib.Seq.{getD-drop, take-take}
 use Rattle.octets.specs.Buffers.{slice}
 use Rattle.octets.specs.Digits.{number, numberAt, numberAfter, digits, bitsOf, word}
 use Rattle.octets.proofs.Slices.{length-slice, slice-add}
@@ -195,6 +195,10 @@ pub digits-read : (bytes : List ℕ) (at n : ℕ) → at + n ≤ length bytes �
 digits-read bytes at n h b =
     ap (λ (k : ℕ). digits 256 k (numberAt bytes at n)) (sym (length-slice bytes at n h))
     ∙ digits-number 256 (omega arith) (slice bytes at n) (below-slice bytes at n b)
+
+-- n bytes that are lent by themselves, as `&bytes[at..at + n]`, make the number that they make where they stand
+pub number-lent : (bytes : List ℕ) (at n : ℕ) → numberAt (slice bytes at (at + n - at)) 0 n ≡ numberAt bytes at n
+number-lent bytes at n = ap (number 256) (take-take n (at + n - at) (drop at bytes) (omega arith))
 
 -- two numbers that stand behind each other
 pub numbers-joined : (bytes : List ℕ) (at m n : ℕ) → at + m + n ≤ length bytes

@@ -2,28 +2,40 @@
 ghost use mathlib.Core.Path.{_≡_};
 ghost use Prim.Native.Nat.{_+_, _*_, _≤_};
 ghost use lib.ListN.{length};
+ghost use Rattle.octets.specs.Digits.{numberAt};
 ghost use Rattle.octets.specs.Rows.{numbersAt};
 ghost use Rattle.pack.specs.Faults.{loopSectionFaults, faultsFromSamples, faultsFromKey, fileFaults};
 ghost use Rattle.pack.specs.Layout.{loopsGood, fours};
 ghost use Rattle.refusals.specs.Rules.{first};
 ghost use Rattle.trivium.specs.Keystream as Keystream;
 
-// Whether each of so many loops from `at` is in rule.
+// The number that four bytes from `at` make, all of them there. They are lent by themselves, for the compiler to see
+// that none is missing: it then drops the reading of fewer.
+fn four_there(file: &[u8], at: usize) -> u32
+    requires { ⌜ at + 4 ≤ length (now file) ⌝ }
+    ensures { λ r. ⌜ r ≡ numberAt (now (file .entry)) at 4 ⌝ }
+{
+    octets::four_at(&file[at..at + 4], 0)
+}
+
+// Whether each of so many loops from `at` is in rule. It goes by places: of turns that are counted, and at most eight,
+// the compiler makes eight copies.
 fn loops_good(file: &[u8], at: usize, count: usize, samples: usize) -> bool
     requires { ⌜ at + 8 * count ≤ length (now file) ⌝ }
     ensures { λ r. ⌜ r ≡ loopsGood samples (numbersAt (fours (2 * count)) (now (file .entry)) at) ⌝ }
 {
-    let mut i = 0;
-    while i < count {
-        let start = octets::four_at(file, at + 8 * i) as usize;
-        let end = octets::four_at(file, at + 8 * i + 4) as usize;
+    let stop = at + 8 * count;
+    let mut place = at;
+    while place < stop {
+        let start = four_there(file, place) as usize;
+        let end = four_there(file, place + 4) as usize;
         if end <= start {
             return false;
         }
         if samples < end {
             return false;
         }
-        i += 1;
+        place += 8;
     }
     true
 }
@@ -61,7 +73,7 @@ fn sample_fault(file: &[u8], at: usize) -> u8
     if file.len() < at + 4 {
         return refusals::CUT_SHORT;
     }
-    let count = octets::four_at(file, at) as usize;
+    let count = four_there(file, at) as usize;
     if pack::MOST_SAMPLES < count {
         return refusals::MANY_SAMPLES;
     }

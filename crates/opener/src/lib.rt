@@ -32,7 +32,8 @@ pub fn survey(file: &[u8]) -> Opened
     let key_at = 1 + name_length;
     let value_at = key_at + 2;
     let sample_at = value_at + trivium::VALUE_BYTES;
-    let samples = octets::four_at(file, sample_at) as usize;
+    // lent by itself, for the compiler to see that all of it is there
+    let samples = octets::four_at(&file[sample_at..sample_at + 4], 0) as usize;
     let loop_at = sample_at + 4 + 2 * samples;
     Opened {
         refusal: refusals::ACCEPTED,

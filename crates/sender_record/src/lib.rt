@@ -6,7 +6,7 @@ use sender::Sender;
 ghost use mathlib.Core.Path.{_≡_};
 ghost use mathlib.Core.List.{[], _∷_};
 ghost use Rattle.octets.specs.Buffers.{put};
-ghost use Rattle.sender_record.specs.Record.{phaseNumbers, phaseIn, senderBytes, senderIn};
+ghost use Rattle.sender_record.specs.Record.{phaseNumbers, phaseIn, senderBytes, noSender, senderIn};
 
 pub const SENDER_BYTES: usize = 27;
 
@@ -64,21 +64,34 @@ fn phase_in(number: u64, known: u16) -> Phase
     Phase::Refused(Reason::TooLong)
 }
 
-// The sender that the bytes are, or one that is out of rule.
+// What bytes that are no sender stand for: one that is out of rule.
+fn no_sender() -> Sender
+    ensures { λ r. ⌜ r ≡ noSender ⌝ }
+{
+    Sender {
+        key: [0; 10],
+        pair: [0; 6],
+        session: 0,
+        length: NO_LENGTH,
+        phase: Phase::Idle,
+    }
+}
+
+// The sender that the bytes are, or one that is out of rule. How many they are is asked before they are read, for the
+// compiler to see that they are there.
 pub fn sender_in(bytes: &[u8]) -> Sender
     ensures { λ r. ⌜ r ≡ senderIn (now (bytes .entry)) ⌝ }
 {
+    if bytes.len() != SENDER_BYTES {
+        return no_sender();
+    }
     let number = octets::number_at(bytes, 24, 1);
     let known = octets::two_at(bytes, 25);
-    let like = (bytes.len() == SENDER_BYTES) & ((number <= 4) & ((number == 2) | (known == 0)));
-    if !like {
-        return Sender {
-            key: [0; 10],
-            pair: [0; 6],
-            session: 0,
-            length: NO_LENGTH,
-            phase: Phase::Idle,
-        };
+    if 4 < number {
+        return no_sender();
+    }
+    if (number != 2) & (known != 0) {
+        return no_sender();
     }
     let front = record_bytes::front_in(bytes);
     let key = front.key;

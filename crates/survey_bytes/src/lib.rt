@@ -69,14 +69,16 @@ pub fn survey(file: &[u8], answer: &mut [usize]) -> u8
     refusals::ACCEPTED
 }
 
-// Reads numbers of four bytes from `at` on to the front of a run that has room for them.
+// Reads numbers of four bytes from `at` on to the front of a run that has room for them. Each is lent by itself, for the
+// compiler to see that all of it is there.
 fn read_numbers(bytes: &[u8], at: usize, n: usize, numbers: &mut [u32])
     requires { ⌜ (at + 4 * n ≤ length (now bytes)) × (n ≤ length (now numbers)) ⌝ }
     ensures { λ _. ⌜ now (numbers .exit) ≡ put (now (numbers .entry)) 0 (numbersAt (fours n) (now (bytes .entry)) at) ⌝ }
 {
     let mut i = 0;
     while i < n {
-        numbers[i] = octets::four_at(bytes, at + 4 * i);
+        let place = at + 4 * i;
+        numbers[i] = octets::four_at(&bytes[place..place + 4], 0);
         i += 1;
     }
 }

@@ -28,7 +28,7 @@ returns-4 c =
     let read = c .before .before .before in
     let p = read .before .before .before .args in
     c .loop-fault .ensures
-    ∙ ap (λ (n : ℕ). first (loopSectionFaults (p .file .now) (p .at + 4 + 2 * n) n)) (read .four-at .ensures)
+    ∙ ap (λ (n : ℕ). first (loopSectionFaults (p .file .now) (p .at + 4 + 2 * n) n)) (read .four-there .ensures)
     ∙ first-from 3 _ (omega arith)
 
 pub sample-fault-spec : {M : Type 1} → statement M

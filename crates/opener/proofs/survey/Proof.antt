@@ -1,10 +1,11 @@
 -- `opener::survey` meets its contract: the first broken rule decides, and with none broken every count stands where the
 -- rules say.
-use mathlib.Core.Path.{sym, _∙_}
+use mathlib.Core.Path.{_≡_, sym, _∙_}
 use Prim.Native.Nat.{_+_, _*_, _≤_}
 use native.Mathlib.Omega.{arith}
 use borrow.Author.Needs.{needs}
 use lib.ListN.{length, getD}
+use Rattle.octets.proofs.Numbers.{number-lent}
 use Rattle.refusals.proofs.Settled.{settled-done, settled-left}
 use Rattle.trivium.specs.Keystream.{trivium}
 use Rattle.pack.specs.Calls.{surveying}
@@ -33,27 +34,34 @@ returns c =
 cast-name-length : tie.Need-cast-name-length
 cast-name-length c = omega (arith, c .shared-slice-known2 .given 0)
 
-cast-t14 : tie.Need-cast-t14
-cast-t14 c =
-    let f = c .before .before .before .before .before .before .before .args .file .now in
+-- the sample count, which is lent by itself
+samples : (c : tie.After-four-at)
+    → c .four-at .result ≡ sampleCount trivium (c .before .before .before .before .before .before .args .file .now)
+samples c =
+    let f = c .before .before .before .before .before .before .args .file .now in
+    c .four-at .ensures ∙ number-lent f (samplePlace trivium f) 4
+
+cast-t15 : tie.Need-cast-t15
+cast-t15 c =
+    let f = c .before .before .before .before .before .before .before .before .args .file .now in
     omega (arith, c .shared-slice-known4 .given (samplePlace trivium f + 4 + 2 * c .before .before .four-at .result))
 
 returns-2 : tie.Need-returns-2
 unfolding surveying
 returns-2 c =
     let read = c .before .before in
-    let e = read .before .before in
+    let e = read .before .before .before in
     let f = e .before .before .before .args .file .now in
     (λ i.
     record {
       refusal = 0;
-      samples = read .four-at .ensures i;
+      samples = samples read i;
       key = getD f (keyPlace f + 1) 0;
-      loops = getD f (bodyPlace trivium f + 2 * read .four-at .ensures i) 0;
+      loops = getD f (bodyPlace trivium f + 2 * samples read i) 0;
       «name_length» = nameCount f;
       «name_at» = 1;
       «value_at» = valuePlace f;
-      «loops_at» = bodyPlace trivium f + 2 * read .four-at .ensures i + 1;
+      «loops_at» = bodyPlace trivium f + 2 * samples read i + 1;
     })
     ∙ settled-done _ _ _ (sym (e .if1 .left) ∙ e .before .file-fault .ensures)
 
@@ -62,9 +70,11 @@ survey-spec =
     tie.close
     (tie.spec (λ c κs. search needs) (λ c κs. search needs) returns (λ c. omega (arith, known (c .before)))
     cast-name-length (λ c. omega (arith, known (c .before))) (λ c. omega (arith, known (c .before)))
-    (λ c. omega (arith, known (c .before))) (λ c κs. search needs) (λ c. search needs)
-    (λ c. omega (arith, known (c .before .before))) (λ c. search needs)
-    (λ c. omega (arith, known (c .before .before))) (λ c. omega (arith, known (c .before .before)))
+    (λ c. omega (arith, known (c .before))) (λ c. omega (arith, known (c .before))) (λ c. omega arith)
+    (λ c. omega arith) (λ c. omega (arith, known (c .before))) (λ c κs. search needs) (λ c. search needs)
+    (λ c. omega (arith, known (c .before .before .before))) (λ c. search needs)
+    (λ c. omega (arith, known (c .before .before .before), samples c))
     (λ c. omega (arith, known (c .before .before .before)))
-    (λ c. omega (arith, known (c .before .before .before .before))) cast-t14
-    (λ c. omega (arith, known (c .before .before .before .before))) returns-2)
+    (λ c. omega (arith, known (c .before .before .before .before)))
+    (λ c. omega (arith, known (c .before .before .before .before .before), samples (c .before .before))) cast-t15
+    (λ c. omega (arith, known (c .before .before .before .before .before), samples (c .before .before))) returns-2)

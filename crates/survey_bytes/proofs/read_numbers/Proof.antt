@@ -5,7 +5,7 @@ use native.Mathlib.Omega.{arith}
 use borrow.Author.Needs.{needs}
 use lib.{ListN.length, ListN.getD, ListN.set, ListN.length-set, Seq.paste, Seq.paste-zero}
 use Rattle.octets.specs.{Digits.numberAt, Rows.numbersAt}
-use Rattle.octets.proofs.{Buffers.paste-front, Buffers.paste-all, Rows.many-read, Rows.number-in}
+use Rattle.octets.proofs.{Buffers.paste-front, Buffers.paste-all, Numbers.number-lent, Rows.many-read, Rows.number-in}
 use Rattle.pack.specs.Layout.{fours}
 use Rattle.survey_bytes.proofs.read_numbers.Statement.{statement}
 use Rattle.survey_bytes.proofs.read_numbers.Tie as tie
@@ -24,13 +24,14 @@ loop-holds c =
 
 loop-again : tie.Need-loop-again Inv-loop μ-loop
 loop-again c =
-    let l = c .before .before .loop in
-    let p = c .before .before .before .before .before .args in
+    let l = c .before .before .before .loop in
+    let p = c .before .before .before .before .before .before .args in
     let run : List ℕ = numbersAt (fours (p .n)) (p .bytes .now) (p .at) in
     let long : length run ≡ p .n = many-read 4 (p .n) (p .bytes .now) (p .at) in
     let place : p .at + 4 * l .i ≡ p .at + l .i * 4 = omega arith in
     let got : c .four-at .result ≡ getD run (l .i) 0 =
-    c .four-at .ensures ∙ ap (λ (k : ℕ). numberAt (p .bytes .now) k 4) place
+    c .four-at .ensures ∙ number-lent (p .bytes .now) (p .at + 4 * l .i) 4
+    ∙ ap (λ (k : ℕ). numberAt (p .bytes .now) k 4) place
     ∙ sym (number-in 4 (p .n) (p .bytes .now) (p .at) (l .i) (omega arith)) in (
       omega arith,
       length-set (l .numbers) (l .i) (c .four-at .result) ∙ l .inv .1,
@@ -50,6 +51,7 @@ returns c =
 pub read-numbers-spec : {M : Type 1} → statement M
 read-numbers-spec =
     tie.close
-    (tie.spec Inv-loop μ-loop loop-holds (λ c. omega arith) (λ c. omega arith)
-    (λ c κs. search needs) (λ c. omega arith) (λ c. omega arith) (λ c. omega arith) (λ c. omega arith) loop-again
+    (tie.spec Inv-loop μ-loop loop-holds (λ c. omega arith) (λ c. omega arith) (λ c. omega arith) (λ c. omega arith)
+    (λ c. omega arith) (λ c. omega arith) (λ c κs. search needs) (λ c. omega arith) (λ c. omega arith)
+    (λ c. omega arith) (λ c. omega arith) loop-again
     (λ c. c .before .loop .inv .1) returns)
