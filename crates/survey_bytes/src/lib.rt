@@ -69,8 +69,8 @@ pub fn survey(file: &[u8], answer: &mut [usize]) -> u8
     refusals::ACCEPTED
 }
 
-// Reads numbers of four bytes from `at` on to the front of a run that has room for them. Each is lent by itself, for the
-// compiler to see that all of it is there.
+// Reads numbers of four bytes from `at` on to the front of a run that has room for them. Each is lent by itself, for
+// the compiler to see that all of it is there.
 fn read_numbers(bytes: &[u8], at: usize, n: usize, numbers: &mut [u32])
     requires { ⌜ (at + 4 * n ≤ length (now bytes)) × (n ≤ length (now numbers)) ⌝ }
     ensures { λ _. ⌜ now (numbers .exit) ≡ put (now (numbers .entry)) 0 (numbersAt (fours n) (now (bytes .entry)) at) ⌝ }

@@ -4,7 +4,7 @@ use Prim.Native.Nat.{ℕ, _+_, _-_, _*_, _≤_}
 use native.Mathlib.Omega.{arith}
 use borrow.Author.Needs.{needs}
 use lib.{ListN.length, ListN.getD, ListN.set, ListN.length-set, Seq.paste, Seq.paste-zero}
-use Rattle.octets.specs.{Digits.numberAt, Rows.numbersAt}
+use Rattle.octets.specs.{Buffers.slice, Digits.numberAt, Rows.numbersAt}
 use Rattle.octets.proofs.{Buffers.paste-front, Buffers.paste-all, Numbers.number-lent, Rows.many-read, Rows.number-in}
 use Rattle.pack.specs.Layout.{fours}
 use Rattle.survey_bytes.proofs.read_numbers.Statement.{statement}
@@ -29,8 +29,10 @@ loop-again c =
     let run : List ℕ = numbersAt (fours (p .n)) (p .bytes .now) (p .at) in
     let long : length run ≡ p .n = many-read 4 (p .n) (p .bytes .now) (p .at) in
     let place : p .at + 4 * l .i ≡ p .at + l .i * 4 = omega arith in
+    let here : ℕ = p .at + 4 * l .i in
+    let read : c .four-at .result ≡ numberAt (slice (p .bytes .now) here (here + 4 - here)) 0 4 = omega arith in
     let got : c .four-at .result ≡ getD run (l .i) 0 =
-    c .four-at .ensures ∙ number-lent (p .bytes .now) (p .at + 4 * l .i) 4
+    read ∙ number-lent (p .bytes .now) here 4
     ∙ ap (λ (k : ℕ). numberAt (p .bytes .now) k 4) place
     ∙ sym (number-in 4 (p .n) (p .bytes .now) (p .at) (l .i) (omega arith)) in (
       omega arith,
