@@ -72,8 +72,8 @@ fn blank() -> [u8; 16]
 }
 
 // The samples from `from` behind the last chunk, as bytes and enciphered, to their place. They are counted as a
-// remainder, so that the compiler sees how few they are. The run stops as late as it can: sooner, and the compiler moves
-// a value more at each turn of the loop before.
+// remainder, so that the compiler sees how few they are. The run stops as late as it can: sooner, and the compiler
+// moves a value more at each turn of the loop before.
 fn write_rest(running: Running, samples: &[i16], output: &mut [u8], from: usize, at: usize)
     requires { ⌜ (from + length (now samples) % 8 ≡ length (now samples))
         × (at + 2 * (length (now samples) - from) ≤ length (now output)) ⌝ }

@@ -69,11 +69,12 @@ below-picked l b (place ∷ some) (suc i) = below-picked l b some i
 pub turned-swapped : (x : ℕ) → turned (swapped x) ≡ swapped (turned x)
 unfolding swapped digits
 turned-swapped x =
-    let pairs : List ℕ = pairsBack (digits 256 8 x) in
+    let bytes : List ℕ = digits 256 8 x in
+    let below = below-picked bytes (digits-below 256 8 x (omega arith)) places in
     turned-bytes (swapped x)
     ∙ ap (λ (l : List ℕ). number 256 (pairsBack l)) (swapped-digits x)
     ∙ ap (λ (l : List ℕ). number 256 (reverse l))
-    (sym (digits-number 256 (omega arith) pairs (below-picked (digits 256 8 x) (digits-below 256 8 x (omega arith)) places)))
+    (sym (digits-number 256 (omega arith) (pairsBack bytes) below))
     ∙ ap swapped (sym (turned-bytes x))
 
 -- samples' bytes make the number that their 16 bits make

@@ -45,8 +45,8 @@ pub fn swapped(word: u64) -> u64
     upper * 4294967296 + lower
 }
 
-// The two bytes of each pair in the other order: as if all eight were, and then the four pairs. Written so, the compiler
-// stores and loads four samples at once; it does not if each is taken out of the word by itself.
+// The two bytes of each pair in the other order: as if all eight were, and then the four pairs. Written so, the
+// compiler stores and loads four samples at once; it does not if each is taken out of the word by itself.
 pub fn swapped_in_pairs(word: u64) -> u64
     ensures { λ r. ⌜ r ≡ turned (swapped word) ⌝ }
 {

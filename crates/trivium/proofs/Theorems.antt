@@ -15,7 +15,8 @@ use Rattle.trivium.specs.{declared.Enciphered.Enciphered, declared.Made.
 use Rattle.trivium.specs.{declared.Running.Running, Calls.refusedMaking, Calls.makeFaults, Calls.makingCipher}
 use Rattle.trivium.specs.Calls.{makingAt, stepping, striding, running, stopping, skipping, encipherFaults}
 use Rattle.trivium.specs.Calls.{enciphering}
-use Rattle.trivium.proofs.Steps.{held-state, state-packed, state-steps, state-skip, skip-add, ran-word, ran-state}
+use Rattle.trivium.proofs.Steps.{held-state, state-packed, state-steps, state-skip, skip-add, ran-word}
+use Rattle.trivium.proofs.Steps.{ran-state}
 
 -- ---- a refused call leaves everything as given
 

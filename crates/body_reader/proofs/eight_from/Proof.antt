@@ -1,11 +1,13 @@
 -- `body_reader::eight_from` meets its contract: in the other order the second four come first.
-use mathlib.Core.{Path._≡_, Path.sym, Path.ap, Path.ap₂, Path._∙_, List.List, List.[], List.reverse, List.reverse-append}
+use mathlib.Core.{Path._≡_, Path.sym, Path.ap, Path.ap₂, Path._∙_}
+use mathlib.Core.List.{List, [], reverse, reverse-append}
 use Prim.Native.Nat.{ℕ, _+_, _*_, _^_}
 use native.Mathlib.Omega.{arith}
 use borrow.Author.Needs.{needs}
 use lib.ListN.{length}
 use Rattle.octets.specs.{Buffers.slice, Digits.number, Digits.numberAt}
-use Rattle.octets.proofs.{Numbers.Below, Numbers.number-append, Numbers.digits-read, Slices.length-slice, Slices.slice-add}
+use Rattle.octets.proofs.Numbers.{Below, number-append, digits-read}
+use Rattle.octets.proofs.Slices.{length-slice, slice-add}
 use Rattle.samples.specs.Words.{swapped}
 use Rattle.samples.proofs.Reversed.{length-back}
 use Rattle.body_reader.proofs.eight_from.Statement.{statement}
@@ -28,4 +30,7 @@ returns c =
     (sym (slice-add s (p .at) 4 4) ∙ sym (digits-read s (p .at) 8 (omega arith) bytes))
 
 pub eight-from-spec : {M : Type 1} → statement M
-eight-from-spec = tie.close (tie.spec (λ c κs. search needs) (λ c. search needs) (λ c. search needs) (λ c κs. search needs) (λ c. search needs) (λ c. search needs) (λ c. search needs) returns)
+eight-from-spec =
+    tie.close
+    (tie.spec (λ c κs. search needs) (λ c. search needs) (λ c. search needs) (λ c κs. search needs) (λ c. search needs)
+    (λ c. search needs) (λ c. search needs) returns)

@@ -1,5 +1,5 @@
--- `body_reader::four_from` meets its contract: four bytes, each scaled by its place from the last on, make the number of
--- the bytes in the other order.
+-- `body_reader::four_from` meets its contract: four bytes, each scaled by its place from the last on, make the number
+-- of the bytes in the other order.
 use mathlib.Core.{Path._≡_, Path.ap, Path._∙_, List.List, List.[], List._∷_, List.reverse}
 use Prim.Native.Nat.{ℕ, _+_, _*_}
 use native.Mathlib.Omega.{arith}

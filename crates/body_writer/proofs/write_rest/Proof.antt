@@ -54,7 +54,8 @@ returns c =
     let bytes : cut .slice .result .now ≡ bytesOfAll some =
     cut .slice .ensures
     ∙ ap (take (2 * n)) (w .write-words .ensures)
-    ∙ ap (λ (l : List ℤ). take (2 * n) (put (b .blank .result) 0 (bytesOfAll l))) (take-all (p .from + n - p .from) some (enough (p .from) n (length some) count))
+    ∙ ap (λ (l : List ℤ). take (2 * n) (put (b .blank .result) 0 (bytesOfAll l)))
+    (take-all (p .from + n - p .from) some (enough (p .from) n (length some) count))
     ∙ front some (b .blank .result) (2 * n) twice (few (length (p .samples .now)) (b .blank .ensures)) in
     let left = e .encipher .ensures ∙ ap (λ (l : List ℕ). enciphering r l part) bytes
     ∙ enciphers r (bytesOfAll some) part room in

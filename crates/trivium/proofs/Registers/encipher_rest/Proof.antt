@@ -46,9 +46,11 @@ loop-again c =
     (λ i. state (strode .short-stride .ensures i .next)) ∙ state-skip old n in
     let done =
     covered .cover .ensures
-    ∙ ap (λ (w : ℕ). put (l .output) place (under (p .input .now) place n w)) (λ i. strode .short-stride .ensures i .word)
+    ∙ ap (λ (w : ℕ). put (l .output) place (under (p .input .now) place n w))
+    (λ i. strode .short-stride .ensures i .word)
     ∙ run-written (p .input .now) place n (state old) few (omega arith)
-    (λ i. omega (arith, took .before .before .before .before .shared-slice-known .given i)) (l .output) (omega arith) in (
+    (λ i. omega (arith, took .before .before .before .before .shared-slice-known .given i))
+    (l .output) (omega arith) in (
       omega arith,
       covered .cover .kept .1 .0 ∙ l .inv .1,
       skip-from old mid n rest gone ∙ ap (skipping old) all ∙ l .inv .2,

@@ -1,5 +1,5 @@
--- `trivium::Registers::new_at` meets its contract: the two lengths decide, and the strides of the blank rounds and those
--- asked for are as many steps, one behind the other.
+-- `trivium::Registers::new_at` meets its contract: the two lengths decide, and the strides of the blank rounds and
+-- those asked for are as many steps, one behind the other.
 use mathlib.Core.Path.{ap, _∙_}
 use Prim.Native.Nat.{ℕ, _+_, _*_}
 use native.Mathlib.Omega.{arith}
@@ -34,5 +34,5 @@ returns-3 c =
 pub new-at-spec : {M : Type 1} → statement M
 new-at-spec =
     tie.close
-    (tie.spec (λ c κs. tt) returns (λ c κs. tt) returns-2 (λ c κs. (c .before .if1 .left, c .if2 .left)) (λ c. omega arith)
-    (λ c κs. tt) (λ c κs. tt) returns-3)
+    (tie.spec (λ c κs. tt) returns (λ c κs. tt) returns-2 (λ c κs. (c .before .if1 .left, c .if2 .left))
+    (λ c. omega arith) (λ c κs. tt) (λ c κs. tt) returns-3)

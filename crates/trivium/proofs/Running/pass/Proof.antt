@@ -35,4 +35,6 @@ returns c =
     sym (steps-none s) ∙ ap (λ (n : ℕ). steps n s) none ∙ l .inv
 
 pub pass-spec : {M : Type 1} → statement M
-pass-spec = tie.close (tie.spec Inv-loop μ-loop (λ c. refl) (λ c κs. tt) (λ c. omega arith) (λ c. omega arith) loop-again returns)
+pass-spec =
+    tie.close
+    (tie.spec Inv-loop μ-loop (λ c. refl) (λ c κs. tt) (λ c. omega arith) (λ c. omega arith) loop-again returns)
