@@ -42,6 +42,11 @@ pub record Four (bound : ℕ) (xs : List ℕ) (at : ℕ) : Type 0 where
 pub below-four : {bound : ℕ} (xs : List ℕ) (at : ℕ) → Below bound xs → Four bound xs at
 below-four xs at b = record { first = b at; second = b (at + 1); third = b (at + 2); fourth = b (at + 3) }
 
+-- four bytes, each scaled by its place, make their number
+pub four-scaled : (x y z w : ℕ) → x * 16777216 + y * 65536 + z * 256 + w ≡ number 256 (x ∷ y ∷ z ∷ w ∷ [])
+unfolding numberAfter
+four-scaled x y z w = omega arith
+
 pub after-append : (base before : ℕ) (xs ys : List ℕ)
     → numberAfter base before (xs ++ ys) ≡ numberAfter base (numberAfter base before xs) ys
 unfolding numberAfter

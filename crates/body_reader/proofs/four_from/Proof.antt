@@ -1,18 +1,14 @@
 -- `body_reader::four_from` meets its contract: four bytes, each scaled by its place from the last on, make the number
 -- of the bytes in the other order.
-use mathlib.Core.{Path._≡_, Path.ap, Path._∙_, List.List, List.[], List._∷_, List.reverse}
-use Prim.Native.Nat.{ℕ, _+_, _*_}
+use mathlib.Core.{Path.ap, Path._∙_, List.List, List.reverse}
+use Prim.Native.Nat.{ℕ, _+_}
 use native.Mathlib.Omega.{arith}
 use borrow.Author.Needs.{needs}
 use lib.ListN.{getD}
-use Rattle.octets.specs.Digits.{number, numberAfter}
-use Rattle.octets.proofs.{Numbers.Four, Numbers.below-four, Slices.slice-read}
+use Rattle.octets.specs.Digits.{number}
+use Rattle.octets.proofs.{Numbers.Four, Numbers.below-four, Numbers.four-scaled, Slices.slice-read}
 use Rattle.body_reader.proofs.four_from.Statement.{statement}
 use Rattle.body_reader.proofs.four_from.Tie as tie
-
-four : (x y z w : ℕ) → w * 16777216 + z * 65536 + y * 256 + x ≡ number 256 (w ∷ z ∷ y ∷ x ∷ [])
-unfolding numberAfter
-four x y z w = omega arith
 
 -- the four that are read are bytes
 these : (c : tie.After-shared-slice-known4)
@@ -23,7 +19,7 @@ returns : tie.Need-returns
 returns c =
     let p = c .before .before .before .before .args in
     let s : List ℕ = p .s .now in
-    four (getD s (p .at) 0) (getD s (p .at + 1) 0) (getD s (p .at + 2) 0) (getD s (p .at + 3) 0)
+    four-scaled (getD s (p .at + 3) 0) (getD s (p .at + 2) 0) (getD s (p .at + 1) 0) (getD s (p .at) 0)
     ∙ ap (λ (l : List ℕ). number 256 (reverse l)) (slice-read s (p .at) 3 0 (c .before .before .before .before .pre))
 
 pub four-from-spec : {M : Type 1} → statement M

@@ -1,16 +1,13 @@
 -- `octets::half_at` meets its contract: four bytes, each scaled by its place, make their number.
-use mathlib.Core.{Path._≡_, Path.ap, Path._∙_, List.List, List.[], List._∷_}
-use Prim.Native.Nat.{ℕ, _+_, _*_}
+use mathlib.Core.{Path.ap, Path._∙_, List.List}
+use Prim.Native.Nat.{ℕ, _+_}
 use native.Mathlib.Omega.{arith}
 use borrow.Author.Needs.{needs}
 use lib.ListN.{getD}
-use Rattle.octets.specs.Digits.{number, numberAfter}
-use Rattle.octets.proofs.{Numbers.Four, Numbers.below-four, Slices.slice-read, half_at.Statement.statement}
+use Rattle.octets.specs.Digits.{number}
+use Rattle.octets.proofs.{Numbers.Four, Numbers.below-four, Numbers.four-scaled, Slices.slice-read}
+use Rattle.octets.proofs.half_at.Statement.{statement}
 use Rattle.octets.proofs.half_at.Tie as tie
-
-four : (x y z w : ℕ) → x * 16777216 + y * 65536 + z * 256 + w ≡ number 256 (x ∷ y ∷ z ∷ w ∷ [])
-unfolding numberAfter
-four x y z w = omega arith
 
 -- the four that are read are bytes
 these : (c : tie.After-shared-slice-known4)
@@ -21,7 +18,7 @@ returns : tie.Need-returns
 returns c =
     let p = c .before .before .before .before .args in
     let s : List ℕ = p .s .now in
-    four (getD s (p .at) 0) (getD s (p .at + 1) 0) (getD s (p .at + 2) 0) (getD s (p .at + 3) 0)
+    four-scaled (getD s (p .at) 0) (getD s (p .at + 1) 0) (getD s (p .at + 2) 0) (getD s (p .at + 3) 0)
     ∙ ap (number 256) (slice-read s (p .at) 3 0 (c .before .before .before .before .pre))
 
 pub half-at-spec : {M : Type 1} → statement M
