@@ -33,11 +33,12 @@ static void must_be_ok(const char *call, std::uint8_t no)
 }
 
 /* A frame that comes late, twice or out of turn may be refused with one of these. Nothing has changed then, and nothing
- * need be done: what was lost is sent again. */
+ * need be done: what was lost is sent again. With the last of them the instrument refuses a librarian that was set back
+ * to an old record: it gets no answer and gives up, and whoever reads the message pairs both ends anew. */
 static bool is_ignored(const char *end, std::uint8_t no)
 {
     const bool ignored = no == SEMIVRAKH_NO_TRANSFER || no == SEMIVRAKH_NOT_A_FRAME || no == SEMIVRAKH_OTHER_SESSION ||
-                         no == SEMIVRAKH_IMPOSSIBLE;
+                         no == SEMIVRAKH_IMPOSSIBLE || no == SEMIVRAKH_OTHER_LENGTH;
     if (ignored) std::printf("  the %s ignores a frame, refused %d: %s\n", end, no, semivrakh_words(no));
     return ignored;
 }

@@ -1,6 +1,7 @@
 /*
  * Sends sounds over the link, on a line that loses, repeats, delays and reorders frames, and looks at what arrives: a
- * sound that fits, an empty one, and one too long for the receiver. Exit status 0 only if all goes as it should.
+ * sound that fits, an empty one, and one too long for the receiver. In between a sender that was set back opens the
+ * first session again, for another sound. Exit status 0 only if all goes as it should.
  */
 #include "files.h"
 
@@ -156,6 +157,13 @@ static void sender_sends(struct ends *ends, struct line *line, const uint8_t *so
     put_frame(line, &line->to_receiver, frame, frame_length);
 }
 
+static uint8_t hear(struct ends *ends, const uint8_t *frame, size_t frame_length,
+                    uint8_t answer[SEMIVRAKH_ANSWER_MOST], size_t *answer_length)
+{
+    return semivrakh_receiver_hear(ends->receiver, sizeof ends->receiver, frame, frame_length, ends->room,
+                                   ends->room_length, answer, SEMIVRAKH_ANSWER_MOST, answer_length);
+}
+
 /* A frame that comes after its transfer is refused with 25. A line that alters no frame leads to no other number. */
 static void receiver_hears(struct ends *ends, struct line *line)
 {
@@ -163,8 +171,7 @@ static void receiver_hears(struct ends *ends, struct line *line)
     if (!take_frame(line, &line->to_receiver, &frame)) return;
     uint8_t answer[SEMIVRAKH_ANSWER_MOST];
     size_t answer_length;
-    uint8_t no = semivrakh_receiver_hear(ends->receiver, sizeof ends->receiver, frame.bytes, frame.length, ends->room,
-                                         ends->room_length, answer, sizeof answer, &answer_length);
+    uint8_t no = hear(ends, frame.bytes, frame.length, answer, &answer_length);
     if (no == SEMIVRAKH_OTHER_SESSION) {
         line->refused++;
         return;
@@ -237,6 +244,21 @@ static void run_empty(struct ends *ends, struct line *line)
     }
 }
 
+/* A sender that is set back, as from a copy on a disk, begins its next sound under a session that was used before. The
+ * receiver tells by the length that this opening repeats none that it has heard. It is well that no block follows: that
+ * one would be under the first sound's keystream. Answers what the receiver refuses with. */
+static uint8_t open_again(struct ends *ends, const uint8_t *set_back, const uint8_t *sound, size_t length)
+{
+    struct ends after = *ends;
+    uint8_t frame[SEMIVRAKH_FRAME_MOST], answer[SEMIVRAKH_ANSWER_MOST];
+    size_t frame_length, answer_length;
+    memcpy(after.sender, set_back, sizeof after.sender);
+    must_be_ok(semivrakh_sender_begin(after.sender, sizeof after.sender, sound, length), "beginning again");
+    must_be_ok(semivrakh_sender_send(after.sender, sizeof after.sender, sound, length, frame, sizeof frame,
+                                     &frame_length), "sending again");
+    return hear(ends, frame, frame_length, answer, &answer_length);
+}
+
 /* What arrived */
 
 /* CRC-32, as in gzip. */
@@ -287,6 +309,8 @@ int main(int words, char **word)
     else make_sound(sound, length);
     for (size_t i = 0; i < length; i++) room[i] = (uint8_t)~sound[i]; /* no byte is right before it has arrived */
     struct ends ends = make_ends(first_pair, room, sizeof room);
+    uint8_t copy[SEMIVRAKH_SENDER_BYTES];
+    memcpy(copy, ends.sender, sizeof copy);
 
     printf("a sound of %zu bytes, checksum %08x\n", length, checksum(sound, length));
     size_t first = transfer(&ends, &line, sound, length);
@@ -297,6 +321,11 @@ int main(int words, char **word)
            blocks_held(&ends), line.tick, line.put);
     printf("arrived: %zu bytes, checksum %08x, %s\n", arrived, checksum(room, arrived),
            same ? "the same byte for byte" : "NOT THE SAME");
+
+    size_t another = length > 0 ? length - 1 : 1;
+    uint8_t no = open_again(&ends, copy, sound, another);
+    printf("a sender set back opens the session again, for %zu bytes: refused %d, %s\n", another, no,
+           semivrakh_words(no));
 
     size_t second = transfer(&ends, &line, NULL, 0);
     printf("an empty sound: %s, with %zu blocks held\n", end_words(second), blocks_held(&ends));
@@ -319,7 +348,7 @@ int main(int words, char **word)
            line.refused + other_line.refused, kept ? "still as it was" : "DAMAGED");
 
     bool ended = first == SEMIVRAKH_DONE && second == SEMIVRAKH_DONE && third == SEMIVRAKH_REFUSED_TOO_LONG;
-    bool good = ended && same && kept;
+    bool good = ended && same && kept && no == SEMIVRAKH_OTHER_LENGTH;
     puts(good ? "all is as it should be" : "NOT AS IT SHOULD BE");
     return good ? 0 : 1;
 }

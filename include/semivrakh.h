@@ -78,8 +78,8 @@
 extern "C" {
 #endif
 
-/* The version of this header, 0.2.1: ten thousand times its first number, a hundred times its second, and its third. */
-#define SEMIVRAKH_VERSION 201
+/* The version of this header, 0.3.0: ten thousand times its first number, a hundred times its second, and its third. */
+#define SEMIVRAKH_VERSION 300
 
 /* The numbers for no. */
 enum {
@@ -104,7 +104,8 @@ enum {
     SEMIVRAKH_NOT_A_FRAME = 24,    /* not a frame for this end, or one with a number outside its limits */
     SEMIVRAKH_OTHER_SESSION = 25,  /* frame of another session; receiver: opening of a lower one */
     SEMIVRAKH_IMPOSSIBLE = 26,     /* a count or a block that can't be */
-    SEMIVRAKH_OUT_OF_RULE = 27     /* bytes that are no link record, or one out of rule */
+    SEMIVRAKH_OUT_OF_RULE = 27,    /* bytes that are no link record, or one out of rule */
+    SEMIVRAKH_OTHER_LENGTH = 36    /* receiver: opening of its own session with another length */
 };
 
 /* Lengths, in bytes unless said otherwise. */
@@ -275,16 +276,19 @@ uint8_t semivrakh_pack_seal(const uint8_t *name, size_t name_length,
  * A transfer ends with DONE, the receiver holding the whole sound, or with REFUSED_TOO_LONG; or it is given up, which
  * is to stop sending, and the next beginning goes over it. A refused beginning leaves the record as it was, and after a
  * done transfer that still says DONE: look at what beginning answers. A frame that comes late, twice or out of turn
- * does no harm: it is refused (22, 24, 25, 26: ignore it), or it is no news. A frame is lent whole and alone; on a line
- * of bytes the caller marks where each begins and ends.
+ * does no harm: it is refused (22, 24, 25, 26: ignore it), or it is no news. 36 never answers such a frame: the opening
+ * is of a sender that was set back or made anew. A frame is lent whole and alone; on a line of bytes the caller marks
+ * where each begins and ends.
  *
  * The instrument may take the sound out of its buffer while semivrakh_receiver_status says WHOLE, and until the next
  * transfer's first block is heard. That another buffer was lent, or that the sound was altered while it was sent, goes
  * unnoticed.
  *
  * A pair of ends must be made fresh together, with the same key and pair name, and neither may be set back to an older
- * record. A sender made anew begins with session 1, and a receiver that was kept refuses all its openings with 25: then
- * both ends are made anew, under another pair name. The longest pack, 32,882 bytes, is longer than the longest sound.
+ * record. A sender made anew begins with session 1, and a receiver that was kept refuses all its openings with 25; one
+ * set back may open the session in hand again, and is refused with 36 if its sound has another length (with the same
+ * length nobody can tell). Then both ends are made anew, under another pair name. The longest pack, 32,882 bytes, is
+ * longer than the longest sound.
  */
 
 /* Makes a sender, idle, at the front of `sender`. Refuses, in order: 1, 2, 19 (fewer than 27 bytes for the record). */
@@ -333,7 +337,7 @@ uint8_t semivrakh_receiver_make(uint8_t *receiver, size_t receiver_length,
  * `*answer_length`. `sound` is the buffer that sounds arrive in: lend this receiver the same one, at the same length,
  * in every call from its making on, and let nobody else write to it. A block in turn writes its own bytes there, and
  * nothing else writes anything.
- * Refuses, in order: 27, 24, 25, 26, 23 (the buffer is shorter than the transfer), 19 (fewer than 7 bytes for an
+ * Refuses, in order: 27, 24, 25 or 36, 26, 23 (the buffer is shorter than the transfer), 19 (fewer than 7 bytes for an
  * answer).
  */
 uint8_t semivrakh_receiver_hear(uint8_t *receiver, size_t receiver_length,

@@ -32,7 +32,8 @@
     ROW(24, "these bytes are no frame for this end", "ignore them: a frame is lent whole and alone, as the other end wrote it") \
     ROW(25, "the frame is of another session", "ignore it: it came late; if every opening is refused so, the ends are no pair any more: pair both anew") \
     ROW(26, "the frame says what can't be", "ignore it; if it comes again, an end was set back or is another: pair both anew") \
-    ROW(27, "these bytes are no record of a link end, or one out of rule", "lend the bytes that the last call left; if they are lost, pair both ends anew")
+    ROW(27, "these bytes are no record of a link end, or one out of rule", "lend the bytes that the last call left; if they are lost, pair both ends anew") \
+    ROW(36, "an opening of the session in hand names another length", "keep what is held; the sender was set back or made anew: pair both ends anew")
 
 /* The refusal in words. A number that no call answers is called so. */
 static inline const char *semivrakh_words(unsigned number)

@@ -142,14 +142,21 @@ static void receiver_hears(size_t sound, size_t answer_room) {
     ask_receiver(receiver, compare_receiver_hear(receiver, heard_frame(), room(sound), room(answer_room)));
 }
 
+static void write_opening_with(faults set) {
+    if (has(set, 25) && state.session == 1) state.session = 2;
+    if (has(set, 25)) write_opening_of_old();
+    else if (has(set, 36)) write_opening_of_another_length();
+    else write_opening_heard();
+}
+
 static void receiver_hears_with(faults set) {
     size_t sound = 0;
     choose_receiver();
-    bool block = has(set, 26) || has(set, 23) || random_once_in(2);
+    bool block = has(set, 26) || has(set, 23) || (!has(set, 36) && random_once_in(2));
+    if (block) set &= ~fault(36); /* an opening's alone, and 26 and 23 are a block's */
     if (block && state.length == 0) state.length = random_between(1, 130);
-    if (!block && has(set, 25) && state.session == 1) state.session = 2;
     if (block) write_block_heard(has(set, 25));
-    else write_opening_heard(has(set, 25));
+    else write_opening_with(set);
     if (has(set, 26)) make_block_impossible();
     if (has(set, 24)) unmake_question();
     if (block) sound = has(set, 23) ? shorter_than(state.length) : enough(state.length);

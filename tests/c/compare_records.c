@@ -74,7 +74,7 @@ void damaged_receiver(void) {
     choose_receiver();
     shorten_sound();
     receiver_record();
-    if (state.length == 0 || random_once_in(2)) write_opening_heard(false);
+    if (state.length == 0 || random_once_in(2)) write_opening_heard();
     else write_block_heard(false);
     damage_all(RECEIVER, receiver_answers, receiver_hears);
 }

@@ -9,7 +9,7 @@
 #include "lend.h"
 
 /* A set of refusal numbers that an input gives cause for. */
-typedef uint32_t faults;
+typedef uint64_t faults;
 
 static inline faults fault(uint8_t number) {
     return (faults)1 << number;

@@ -21,7 +21,7 @@ const uint8_t listed_refusals[CALLS][12] = {
     [SENDER_HEAR] = {27, 24, 22, 25, 26},
     [SENDER_STATUS] = {27, 19},
     [RECEIVER_MAKE] = {1, 2, 19},
-    [RECEIVER_HEAR] = {27, 24, 25, 26, 23, 19},
+    [RECEIVER_HEAR] = {27, 24, 25, 36, 26, 23, 19},
     [RECEIVER_STATUS] = {27, 19},
 };
 

@@ -171,6 +171,7 @@ static void one_transfer(void) {
     uint32_t patience = random_below(60);
     while (under_way() && (patience > 0 || !(abandon || finish))) {
         something_happens();
+        if (counted.moments % 16 == 0) stray_opening();
         if (time_to_probe()) probe();
         if (patience > 0) patience--;
     }
@@ -229,6 +230,7 @@ static bool print_counts(void) {
     all &= print_count("calls refused for want of room", counted.short_room);
     all &= print_count("sendings of a sound of another length", counted.wrong_sound);
     all &= print_count("beginnings with no session left", counted.no_session_left);
+    all &= print_count("openings of no sender, with another length", counted.strays);
     return all;
 }
 

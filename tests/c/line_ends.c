@@ -173,8 +173,8 @@ static void check_buffer(const uint8_t *before, size_t held_before, bool placed)
     check_unchanged(buffer + to, before + to, rest, "the buffer, outside the block that was placed,");
 }
 
-uint8_t receiver_hears(const uint8_t *frame, size_t length, uint8_t answer[ANSWER], size_t room,
-                       size_t *answer_length) {
+static uint8_t receiver_hears_any(const uint8_t *frame, size_t length, uint8_t answer[ANSWER], size_t room,
+                                  size_t *answer_length) {
     static uint8_t buffer_before[SOUND + MARGIN];
     uint8_t before[RECEIVER], answer_before[ANSWER];
     size_t session_before = receiver_says(SEMIVRAKH_RECEIVER_SESSION), held_before = held();
@@ -193,11 +193,29 @@ uint8_t receiver_hears(const uint8_t *frame, size_t length, uint8_t answer[ANSWE
         if (*answer_length != 0) fail("a refused frame has an answer's length");
     }
     if (no == 0 && room < ANSWER) fail("the receiver answers without room");
+    check_moment();
+    return no;
+}
+
+uint8_t receiver_hears(const uint8_t *frame, size_t length, uint8_t answer[ANSWER], size_t room,
+                       size_t *answer_length) {
+    uint8_t no = receiver_hears_any(frame, length, answer, room, answer_length);
     if (no != 0 && no != SEMIVRAKH_OTHER_SESSION && !(no == SEMIVRAKH_NO_ROOM && room < ANSWER)) {
         fail("the receiver refuses a delivered frame with %d", no);
     }
-    check_moment();
     return no;
+}
+
+void stray_opening(void) {
+    uint8_t frame[] = {1, 0, 0, 0, 0, 0, 0, 0, 0}, answer[ANSWER] = {0};
+    size_t session = receiver_says(SEMIVRAKH_RECEIVER_SESSION), length = receiver_says(SEMIVRAKH_RECEIVER_LENGTH);
+    if (session == 0) return;
+    const size_t others[] = {length == 0 ? 1 : 0, length == 0 ? 1 : length - 1, length == SOUND ? 1 : SOUND};
+    write_number(frame + 1, (uint32_t)session);
+    write_number(frame + 5, (uint32_t)others[counted.strays % 3]);
+    uint8_t no = receiver_hears_any(frame, sizeof frame, answer, counted.strays % 2 == 0 ? ANSWER : 0, &length);
+    if (no != SEMIVRAKH_OTHER_LENGTH) fail("an opening of the session in hand with another length gets %d", no);
+    counted.strays++;
 }
 
 /* Undisturbed rounds. */

@@ -16,7 +16,7 @@ enum { SOUNDS = 40, MARGIN = 64 };
 struct counted {
     uint64_t pairs, transfers, done, too_long, abandoned, moments, probes, undisturbed_rounds;
     uint64_t lost, repeated, delayed, reordered, across_transfers;
-    uint64_t late_for_sender, late_for_receiver, short_room, wrong_sound, no_session_left;
+    uint64_t late_for_sender, late_for_receiver, short_room, wrong_sound, no_session_left, strays;
 };
 
 /* A sound, and the session that it was begun under; 0 if there was none left. */
@@ -54,6 +54,9 @@ void begin(const struct sound *sound);
 size_t send_frame(uint8_t *frame, size_t room, size_t sound_length, uint8_t due);
 uint8_t sender_hears(const uint8_t *frame, size_t length);
 uint8_t receiver_hears(const uint8_t *frame, size_t length, uint8_t answer[ANSWER], size_t room, size_t *answer_length);
+/* The receiver hears an opening of its own session, if it has one, with another length: no sender of its pair wrote it,
+ * and as it is refused all goes on as if it had never come. */
+void stray_opening(void);
 
 /* Undisturbed rounds to the transfer's end, no more than may be; hands back how many. */
 size_t finish_undisturbed(void);

@@ -183,10 +183,19 @@ void write_possible_answer(uint32_t session) {
     else write_too_long(session);
 }
 
-void write_opening_heard(bool other) {
-    if (other) write_opening(random_between(1, state.session - 1), choose_length());
-    else if (random_once_in(3)) write_opening(state.session, choose_length());
-    else write_opening(random_between(state.session, UINT32_MAX), choose_length());
+void write_opening_heard(void) {
+    uint32_t session = random_once_in(3) ? state.session : random_between(state.session, UINT32_MAX);
+    write_opening(session, session == state.session ? state.length : choose_length());
+}
+
+void write_opening_of_old(void) {
+    write_opening(random_between(1, state.session - 1), choose_length());
+}
+
+void write_opening_of_another_length(void) {
+    uint32_t length = random_once_in(2) ? state.length + 1 : choose_length();
+    if (length == state.length || length > SEMIVRAKH_SOUND_MOST) length = state.length == 0 ? 1 : state.length - 1;
+    write_opening(state.session, length);
 }
 
 void write_block_heard(bool other) {

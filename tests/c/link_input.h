@@ -69,10 +69,14 @@ void write_holds(uint32_t session, uint32_t count);
 void write_too_long(uint32_t session);
 struct run heard_frame(void);
 
-/* Frames that the state's end takes. */
+/* Frames that the state's end takes; a block also of another session. */
 void write_possible_answer(uint32_t session);
-void write_opening_heard(bool other);
+void write_opening_heard(void);
 void write_block_heard(bool other);
+
+/* Openings that a receiver refuses: of a session below its own, and of its own with another length. */
+void write_opening_of_old(void);
+void write_opening_of_another_length(void);
 
 /* Compare what a record says of itself, in too little room, just enough, or more. Another call has answered `no` on the
  * same bytes: they are out of rule for both, or for neither. */

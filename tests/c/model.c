@@ -31,6 +31,7 @@ struct model_rules model_rules = {
         [MODEL_OTHER_SESSION] = 25,
         [MODEL_IMPOSSIBLE] = 26,
         [MODEL_OUT_OF_RULE] = 27,
+        [MODEL_OTHER_LENGTH] = 36,
     },
 };
 

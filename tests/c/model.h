@@ -34,6 +34,7 @@ enum model_reason {
     MODEL_OTHER_SESSION,
     MODEL_IMPOSSIBLE,
     MODEL_OUT_OF_RULE,
+    MODEL_OTHER_LENGTH,
     MODEL_REASONS
 };
 

@@ -260,6 +260,7 @@ uint8_t model_receiver_hear(uint8_t *receiver, size_t receiver_length,
     if (!read_question(&heard, frame, frame_length)) return model_no(MODEL_NOT_A_FRAME);
     if (heard.kind == KIND_OPENING) {
         if (heard.session < link.session) return model_no(MODEL_OTHER_SESSION);
+        if (heard.session == link.session && heard.length != link.length) return model_no(MODEL_OTHER_LENGTH);
     } else {
         uint8_t no = block_fault(&link, &heard, sound_length);
         if (no != 0) return no;

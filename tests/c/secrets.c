@@ -168,7 +168,8 @@ static void make_ends(struct ends *ends) {
     look_at_records(ends);
 }
 
-/* A round, in which the receiver hears the frame twice: the second time it is no news. */
+/* A round, in which the receiver hears the frame twice: the second time it is no news. An opening that it has taken comes
+ * a third time, with another length. */
 static void round_of(struct ends *ends, const uint8_t *sound, size_t length) {
     uint8_t frame[SEMIVRAKH_FRAME_MOST], answer[SEMIVRAKH_ANSWER_MOST];
     size_t frame_length = 0, answer_length = 0;
@@ -182,6 +183,11 @@ static void round_of(struct ends *ends, const uint8_t *sound, size_t length) {
              ends->room_length, answer, sizeof answer, &answer_length);
         public_bytes("semivrakh_receiver_hear", &answer_length, sizeof answer_length);
         public_bytes("semivrakh_receiver_hear", answer, answer_length);
+    }
+    if (frame[0] == 1 && length <= ends->room_length) {
+        frame[frame_length - 1] ^= 1;
+        CALL(36, semivrakh_receiver_hear, ends->receiver, sizeof ends->receiver, frame, frame_length, ends->room,
+             ends->room_length, answer, sizeof answer, &answer_length);
     }
     CALL(0, semivrakh_sender_hear, ends->sender, sizeof ends->sender, answer, answer_length);
     look_at_records(ends);

@@ -49,6 +49,10 @@ module _ {cipher : Cipher} {key pair : List ℕ} {room : ℕ} (w : World) (i : I
       Kept (received (record { refusal = accepted; length = length (bytes (e .answer)); receiver = e .next }) (e .sound)
       (placed reply 0 (bytes (e .answer))))
 
+  -- every frame of the receiver's session speaks of the sound that it takes
+  own-length : (s : ℕ) → s ≡ w .receiver .session → length (w .sound s) ≡ w .receiver .length
+  own-length s own = ap (λ (n : ℕ). length (w .sound n)) own ∙ i .held .same
+
   abbrev Answer : ℕ → ℕ → List ℕ → Type 0
   Answer session count = Down (w .sound) (w .sender .session) session count room
 
@@ -145,19 +149,17 @@ module _ {cipher : Cipher} {key pair : List ℕ} {room : ℕ} (w : World) (i : I
         rw (meant (opening s (length (w .sound s))) e (omega arith))
         (by-turns Kept
         (keeps (receiver-in-rule w i) (keeps refl
-        (either (i, omega arith) (λ later.
-        either (i, omega arith) (λ seven. finally (on-opening seven s some most later)))))))
+        (either (i, omega arith) (λ later. keeps (own-length s)
+        (either (i, omega arith) (λ seven. finally (on-opening seven s some most later))))))))
     on-up (a-block s k some most below due e) =
         let run : List ℕ = covered cipher key pair s k (blockOf (w .sound s) k) in
         let short = i .begun .short s in
         let long : length run ≡ size (length (w .sound s)) k = length-run cipher key pair s k (w .sound s) in
-        let here : s ≡ w .receiver .session → length (w .sound s) ≡ w .receiver .length =
-        λ own. ap (λ (n : ℕ). length (w .sound n)) own ∙ i .held .same in
         rw (meant (block s k run) e (omega arith))
         (by-turns Kept
         (keeps (receiver-in-rule w i) (keeps refl
         (either (i, omega arith) (λ own.
-        let same = here own in
+        let same = own-length s own in
         keeps (omega arith) (keeps (long ∙ ap (λ (n : ℕ). size n k) same) (keeps (omega arith)
         (either (i, omega arith) (λ seven. finally (on-block seven s some most k below due own))))))))))
 

@@ -89,7 +89,7 @@ module _ {cipher : Cipher} {key pair : List ℕ} {room : ℕ} (w : World) (i : I
         let stands = standing w i u in
         let none : news ≡ 0 = rw e in
         answers (opening session long) (omega arith)
-        (receiver-in-rule w i, (refl, (i .between .ahead, (seven, tt))))
+        (receiver-in-rule w i, (refl, (i .between .ahead, (λ own. sym (same-length w i (sym own)), (seven, tt)))))
         (by-cond NewsOf (eqb session (w .receiver .session)) _ _
         (λ t.
         let own = sym (eqb-true session (w .receiver .session) t) in

@@ -4,7 +4,7 @@ use mathlib.Core.{Path._≡_, Logic._≢_, Bool.true, List.List, List.List·Mem�
 use Prim.Native.Nat.{ℕ, zero, suc, _+_, _≤_, _<_}
 use lib.ListN.{length, take}
 use Rattle.octets.specs.Stream.{Cipher}
-use Rattle.refusals.specs.Numbers.{accepted, wrongSound, notAFrame, impossible, outOfRule}
+use Rattle.refusals.specs.Numbers.{accepted, wrongSound, notAFrame, impossible, outOfRule, otherLength}
 use Rattle.refusals.specs.Outcome.{Outcome}
 use Rattle.blocks.specs.Blocks.{blocks}
 use Rattle.frames.specs.Frames.{tooLong, bytes}
@@ -15,11 +15,13 @@ use Rattle.sender.specs.Sender.{beginning, dueIn, sending, hearing}
 use Rattle.link.specs.World.{World, sentFrame, replyFrame, afterBegin, afterSend, afterReceive, afterHear}
 use Rattle.link.specs.World.{Reach, heldBytes, UnderWay}
 
--- no frame off the line is refused as no frame for this end or as one that can't be, nor for a record out of rule
+-- no frame off the line is refused as no frame for this end or as one that can't be, nor for a record out of rule, nor
+-- as an opening of the session in hand that isn't the same again
 pub record Possible (number : ℕ) : Type 0 where
   pub aFrame : number ≢ notAFrame
   pub canBe : number ≢ impossible
   pub inRule : number ≢ outOfRule
+  pub sameLength : number ≢ otherLength
 
 -- at the receiver, moreover, its one buffer is never short for the transfer
 abbrev pub Fitting : ℕ → Type 0

@@ -6,12 +6,12 @@ use borrow.Author.Tests.{leb-true}
 use lib.{Dec.T, Dec.leb, Dec.eqb, ListN.length}
 use Rattle.octets.specs.{Buffers.placed, Stream.Cipher}
 use Rattle.refusals.specs.{Numbers.accepted, Rules.AllRight, Rules.first}
-use Rattle.refusals.proofs.{Faults.numbered, Faults.none-wrong, Settled.done-if, Settled.settled-left, Tests.and-first}
-use Rattle.refusals.proofs.{Tests.and-second}
+use Rattle.refusals.proofs.{Faults.numbered, Faults.numbered-both, Faults.none-wrong, Settled.done-if}
+use Rattle.refusals.proofs.{Settled.settled-left, Tests.and-first, Tests.and-second}
 use Rattle.blocks.specs.Blocks.{longest, blocks}
 use Rattle.frames.specs.Frames.{opening, block, holds, tooLong, bytes, some, Heard, it, noFrame, heard}
 use Rattle.receiver.specs.{Rules.receiverInRule, declared.Receiver.Receiver}
-use Rattle.receiver.specs.Receiver.{receiveFaults, onFrame, received, receiving}
+use Rattle.receiver.specs.Receiver.{frameFaults, roomFaults, receiveFaults, onFrame, received, receiving}
 
 -- in rule, no more blocks are held than a sound can have
 pub count-below : (r : Receiver) → receiverInRule r ≡ true → r .count ≤ blocks longest
@@ -22,17 +22,19 @@ count-below r e =
     let begun = some (r .session) || (eqb (r .length) 0 && eqb (r .count) 0) in
     let few = leb-true (r .count) (blocks (r .length)) (and-second begun _ rest) in omega arith
 
--- nothing is refused with number 0
+-- no rule's number is 0
+pub frame-numbered : (r : Receiver) (sound : ℕ) (h : Heard) → T (numbered (frameFaults r sound h))
+frame-numbered r sound noFrame = tt
+frame-numbered r sound (it (opening session long)) = tt
+frame-numbered r sound (it (block session k run)) = tt
+frame-numbered r sound (it (holds session held)) = tt
+frame-numbered r sound (it (tooLong session)) = tt
+
 pub none-broken : (r : Receiver) (sound reply : ℕ) (h : Heard) → first (receiveFaults r sound reply h) ≡ accepted
     → AllRight (receiveFaults r sound reply h)
-none-broken r sound reply h = none-wrong (receiveFaults r sound reply h) (all h)
-  where
-    all : (h : Heard) → T (numbered (receiveFaults r sound reply h))
-    all noFrame = tt
-    all (it (opening session long)) = tt
-    all (it (block session k run)) = tt
-    all (it (holds session held)) = tt
-    all (it (tooLong session)) = tt
+none-broken r sound reply h =
+    none-wrong (receiveFaults r sound reply h)
+    (numbered-both (frameFaults r sound h) (roomFaults reply) (frame-numbered r sound h) tt)
 
 module _ (cipher : Cipher) (r : Receiver) (sound reply frame : List ℕ) (h : Heard) (e : heard frame ≡ h) where
   pub refused-so : (n : ℕ) → n ≢ accepted → n ≡ first (receiveFaults r (length sound) (length reply) h)

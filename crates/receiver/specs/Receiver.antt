@@ -5,7 +5,8 @@ use mathlib.Core.{Bool.Bool, Bool.true, Bool.false, Bool.cond, List.List, List.[
 use lib.{Dec.ltb, Dec.eqb, ListN.length}
 use Rattle.octets.specs.{Buffers.placed, Stream.Cipher}
 use Rattle.refusals.specs.Numbers.{accepted, noRoom, wrongSound, notAFrame, otherSession, impossible, outOfRule}
-use Rattle.refusals.specs.Rules.{_over_, _under_, _unlike_, unless, Fault, _says_, settled}
+use Rattle.refusals.specs.{Numbers.otherLength, Rules.Fault, Rules._says_, Rules.settled}
+use Rattle.refusals.specs.Rules.{_over_, _under_, _unlike_, unless, _given_is_}
 use Rattle.blocks.specs.{Blocks.blocks, Blocks.place, Blocks.size, Covering.covered}
 use Rattle.names.specs.Naming.{nameFaults, noKey, noPair}
 use Rattle.frames.specs.Frames.{Frame, opening, block, holds, tooLong, bytes, Heard, it, noFrame, heard}
@@ -40,7 +41,10 @@ answerRoom = 7
 -- `sound` is how many bytes the buffer for the sound has
 abbrev pub contentFaults : Receiver → ℕ → Heard → List Fault
 contentFaults r sound noFrame = []
-contentFaults r sound (it (opening session long)) = (session under r .session says otherSession) ∷ []
+contentFaults r sound (it (opening session long)) =
+    (session under r .session says otherSession)
+    ∷ (long unlike r .length given session is r .session says otherLength)
+    ∷ []
 contentFaults r sound (it (block session k run)) =
     (session unlike r .session says otherSession)
     ∷ (k + 1 over blocks (r .length) says impossible)
@@ -50,11 +54,15 @@ contentFaults r sound (it (block session k run)) =
 contentFaults r sound (it (holds session held)) = []
 contentFaults r sound (it (tooLong session)) = []
 
+abbrev pub frameFaults : Receiver → ℕ → Heard → List Fault
+frameFaults r sound h = (unless (forReceiver h) says notAFrame) ∷ contentFaults r sound h
+
+abbrev pub roomFaults : ℕ → List Fault
+roomFaults reply = (reply under answerRoom says noRoom) ∷ []
+
 abbrev pub receiveFaults : Receiver → ℕ → ℕ → Heard → List Fault
 receiveFaults r sound reply h =
-    (unless (receiverInRule r) says outOfRule)
-    ∷ (unless (forReceiver h) says notAFrame)
-    ∷ (contentFaults r sound h ++ ((reply under answerRoom says noRoom) ∷ []))
+    (unless (receiverInRule r) says outOfRule) ∷ (frameFaults r sound h ++ roomFaults reply)
 
 -- the same receiver with this transfer: session, length, blocks held
 abbrev pub taking : Receiver → ℕ → ℕ → ℕ → Receiver

@@ -10,7 +10,7 @@ ghost use Rattle.refusals.specs.Rules.{AllRight, first};
 ghost use Rattle.trivium.specs.Keystream.{trivium};
 ghost use Rattle.blocks.specs.Blocks.{place};
 ghost use Rattle.blocks.specs.Covering.{covered};
-ghost use Rattle.frames.specs.Frames.{bytes};
+ghost use Rattle.frames.specs.Frames.{opening, block, bytes, it};
 ghost use Rattle.frames.specs.Told.{told, heardAs};
 ghost use Rattle.receiver.specs.Receiver.{makingReceiver, contentFaults, receiveFaults, taking, onFrame};
 ghost use Rattle.receiver.specs.Receiver.{received, receiving};
@@ -61,6 +61,44 @@ fn in_rule(session: u32, total: u32, count: u16) -> bool
             & ((count as u32) <= blocks::block_count(total)))
 }
 
+// Why a receiver with these numbers can't take an opening, or 0. Only a later session may name another length.
+fn opening_fault(session: u32, total: u32, named: u32, long: u32) -> u8
+    ensures { λ r. ⌜ ((o : Receiver) (count sound : ℕ)
+        → r ≡ first (contentFaults (taking o session total count) sound (it (opening named long)))) ⌝ }
+{
+    if named < session {
+        return refusals::OTHER_SESSION;
+    }
+    if session < named {
+        return refusals::ACCEPTED;
+    }
+    if long != total {
+        return refusals::OTHER_LENGTH;
+    }
+    refusals::ACCEPTED
+}
+
+// Why a receiver with these numbers can't take block k, of n bytes, with so many bytes lent for the sound, or 0.
+fn block_fault(session: u32, total: u32, named: u32, k: u16, n: usize, sound: usize) -> u8
+    ensures { λ r. ⌜ ((o : Receiver) (count : ℕ) (run : List ℕ) → n ≡ length run
+        → r ≡ first (contentFaults (taking o session total count) sound (it (block named k run)))) ⌝ }
+{
+    if named != session {
+        return refusals::OTHER_SESSION;
+    }
+    let size = blocks::block_size(total as usize, k);
+    if size == 0 {
+        return refusals::IMPOSSIBLE;
+    }
+    if n != size {
+        return refusals::IMPOSSIBLE;
+    }
+    if sound < total as usize {
+        return refusals::WRONG_SOUND;
+    }
+    refusals::ACCEPTED
+}
+
 // Why a receiver with these numbers can't hear a frame with so many bytes lent for the sound and for the answer, or 0.
 fn fault(session: u32, total: u32, count: u16, what: Told, sound: usize, reply: usize) -> u8
     ensures { λ r. ⌜ ((o : Receiver) (run : List ℕ) → what ≡ told (heardAs run what)
@@ -69,30 +107,13 @@ fn fault(session: u32, total: u32, count: u16, what: Told, sound: usize, reply: 
     if !in_rule(session, total, count) {
         return refusals::OUT_OF_RULE;
     }
-    match what {
-        Told::Opening(named, _) => {
-            if named < session {
-                return refusals::OTHER_SESSION;
-            }
-        }
-        Told::Block(named, k, n) => {
-            if named != session {
-                return refusals::OTHER_SESSION;
-            }
-            let size = blocks::block_size(total as usize, k);
-            if size == 0 {
-                return refusals::IMPOSSIBLE;
-            }
-            if n != size {
-                return refusals::IMPOSSIBLE;
-            }
-            if sound < total as usize {
-                return refusals::WRONG_SOUND;
-            }
-        }
-        _ => {
-            return refusals::NOT_A_FRAME;
-        }
+    let content = match what {
+        Told::Opening(named, long) => opening_fault(session, total, named, long),
+        Told::Block(named, k, n) => block_fault(session, total, named, k, n, sound),
+        _ => refusals::NOT_A_FRAME,
+    };
+    if content != refusals::ACCEPTED {
+        return content;
     }
     if reply < ANSWER_ROOM {
         return refusals::NO_ROOM;

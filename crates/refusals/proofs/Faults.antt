@@ -1,27 +1,30 @@
--- Lists of faults as plain facts. A rule's test and its meaning agree, once for each of the four kinds; so nothing is
+-- Lists of faults as plain facts. A rule's test and its meaning agree, once for each of the five kinds; so nothing is
 -- refused exactly if every rule of the list holds, whatever the list, as long as no rule's number is 0.
 use Prim.Native.Nat.{ℕ, zero, suc, _<_}
 use mathlib.Core.Bool.{Bool, true, false, not, cond, _&&_}
 use mathlib.Core.List.{List, [], _∷_, _++_}
 use mathlib.Core.Logic.{_≢_}
-use mathlib.Core.Path.{_≡_, refl, ap, _∙_}
-use borrow.Author.Tests.{ltb-false, eqb-true, not-false, lt-ltb, le-ltb, eq-eqb, ne-eqb}
+use mathlib.Core.Path.{_≡_, refl, sym, ap, _∙_}
+use borrow.Author.Tests.{ltb-true, ltb-false, eqb-true, eqb-false, not-true, not-false, lt-ltb, le-ltb, eq-eqb, ne-eqb}
 use lib.{Dec.T, Dec.eqb, Dec.ltb, ListN.drop}
 use Rattle.refusals.specs.Numbers.{accepted}
-use Rattle.refusals.specs.Rules.{Wrong, _over_, _under_, _unlike_, unless, broken, Right, Fault, _says_, AllRight}
-use Rattle.refusals.specs.Rules.{first, settled}
+use Rattle.refusals.specs.Rules.{Wrong, _over_, _under_, _unlike_, unless, _given_is_, broken, Right, Fault}
+use Rattle.refusals.specs.Rules.{_says_, AllRight, first, settled}
+use Rattle.refusals.proofs.Tests.{by-cond, and-both, and-first, and-second, and-case, and-not}
 
 pub right : (w : Wrong) → broken w ≡ false → Right w
 right (x over limit) e = ltb-false limit x e
 right (x under limit) e = ltb-false x limit e
 right (x unlike y) e = eqb-true x y (not-false (eqb x y) e)
 right (unless test) e = not-false test e
+right (w given x is y) e = λ same. right w (and-case (eq-eqb x y same) e)
 
 fine : (w : Wrong) → Right w → broken w ≡ false
 fine (x over limit) h = le-ltb limit x h
 fine (x under limit) h = le-ltb x limit h
 fine (x unlike y) h = ap not (eq-eqb x y h)
 fine (unless test) h = ap not h
+fine (w given x is y) h = and-not (eqb x y) (λ t. fine w (h (eqb-true x y t)))
 
 -- what is known where a rule is broken
 abbrev pub Broken : Wrong → Type 0
@@ -29,12 +32,22 @@ Broken (x over limit) = limit < x
 Broken (x under limit) = x < limit
 Broken (x unlike y) = x ≢ y
 Broken (unless test) = test ≡ false
+Broken (w given x is y) = (x ≡ y) × Broken w
 
 wrong : (w : Wrong) → Broken w → broken w ≡ true
 wrong (x over limit) h = lt-ltb limit x h
 wrong (x under limit) h = lt-ltb x limit h
 wrong (x unlike y) h = ap not (ne-eqb x y h)
 wrong (unless test) h = ap not h
+wrong (w given x is y) h = and-both (eq-eqb x y (h .0)) (wrong w (h .1))
+
+is-wrong : (w : Wrong) → broken w ≡ true → Broken w
+is-wrong (x over limit) e = ltb-true limit x e
+is-wrong (x under limit) e = ltb-true x limit e
+is-wrong (x unlike y) e = eqb-false x y (not-true (eqb x y) e)
+is-wrong (unless test) e = not-true test e
+is-wrong (w given x is y) e =
+    (eqb-true x y (and-first (eqb x y) (broken w) e), is-wrong w (and-second (eqb x y) (broken w) e))
 
 -- ---- all rules hold
 
@@ -51,6 +64,17 @@ numbered (f ∷ faults) = ltb accepted (f .number) && numbered faults
 numbered-front : (a b : Bool) → T (a && b) → T a × T b
 numbered-front true b h = (tt, h)
 numbered-front false b h = absurd h
+
+-- of two lists, one after the other
+pub numbered-both : (xs ys : List Fault) → T (numbered xs) → T (numbered ys) → T (numbered (xs ++ ys))
+numbered-both [] ys h k = k
+numbered-both (x ∷ xs) ys h k =
+    let no = numbered-front (ltb accepted (x .number)) (numbered xs) h in
+    both (ltb accepted (x .number)) (numbered (xs ++ ys)) (no .0) (numbered-both xs ys (no .1) k)
+  where
+    both : (a b : Bool) → T a → T b → T (a && b)
+    both true b h k = k
+    both false b h k = absurd h
 
 zero-no : (n : ℕ) → n ≡ accepted → T (ltb accepted n) → ⊥
 zero-no n z t = rw z at t
@@ -103,6 +127,42 @@ unfolding first
 refused-at k [] h = absurd h
 refused-at zero (f ∷ faults) h = rw (wrong (f .wrong) h)
 refused-at (suc k) (f ∷ faults) h = rw (fine (f .wrong) (h .0)) (refused-at k faults (h .1))
+
+-- ---- and a number tells which rule is broken, if only one has it
+
+-- no rule of the list has the number n, which isn't the one of a call that isn't refused
+abbrev pub unlisted : ℕ → List Fault → Bool
+unlisted n [] = ltb accepted n
+unlisted n (f ∷ faults) = not (eqb (f .number) n) && unlisted n faults
+
+-- none but rule k has it
+abbrev pub onlyAt : ℕ → ℕ → List Fault → Bool
+onlyAt n k [] = unlisted n []
+onlyAt n zero (f ∷ faults) = unlisted n faults
+onlyAt n (suc k) (f ∷ faults) = not (eqb (f .number) n) && onlyAt n k faults
+
+differs : (m n : ℕ) → T (not (eqb m n)) → m ≢ n
+differs m n t e = rw (eq-eqb m n e) at t
+
+pub never : (n : ℕ) (faults : List Fault) → T (unlisted n faults) → first faults ≢ n
+unfolding first
+never n [] t = λ e. zero-no n (sym e) t
+never n (f ∷ faults) t =
+    let other = numbered-front (not (eqb (f .number) n)) (unlisted n faults) t in
+    by-cond (λ (m : ℕ). m ≢ n) (broken (f .wrong)) (f .number) (first faults)
+    (λ _. differs (f .number) n (other .0)) (λ _. never n faults (other .1))
+
+pub blamed : (n k : ℕ) (faults : List Fault) → T (onlyAt n k faults) → first faults ≡ n → FailsAt k faults
+unfolding first
+blamed n k [] t = λ e. absurd (never n [] t e)
+blamed n zero (f ∷ faults) t =
+    by-cond (λ (m : ℕ). m ≡ n → Broken (f .wrong)) (broken (f .wrong)) (f .number) (first faults)
+    (λ b _. is-wrong (f .wrong) b) (λ _ e. absurd (never n faults t e))
+blamed n (suc k) (f ∷ faults) t =
+    let other = numbered-front (not (eqb (f .number) n)) (onlyAt n k faults) t in
+    by-cond (λ (m : ℕ). m ≡ n → FailsAt (suc k) (f ∷ faults)) (broken (f .wrong)) (f .number) (first faults)
+    (λ _ e. absurd (differs (f .number) n (other .0) e))
+    (λ b e. (right (f .wrong) b, blamed n k faults (other .1) e))
 
 -- the rules before number k are right
 abbrev pub RightBefore : ℕ → List Fault → Type 0

@@ -23,6 +23,14 @@ and-second true b e = e
 and-second false true e = refl
 and-second false false e = e
 
+-- two tests fail together exactly if the second fails where the first holds
+pub and-case : {a b : Bool} → a ≡ true → (a && b) ≡ false → b ≡ false
+and-case {a} {b} p e = rw p at e
+
+pub and-not : (a : Bool) {b : Bool} → (a ≡ true → b ≡ false) → (a && b) ≡ false
+and-not true h = h refl
+and-not false h = refl
+
 -- a second test counts only where the first one holds
 pub and-same : (a : Bool) {b c : Bool} → (a ≡ true → b ≡ c) → (a && b) ≡ (a && c)
 and-same true same = same refl

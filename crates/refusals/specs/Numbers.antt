@@ -86,3 +86,7 @@ impossible = 26
 -- a link record out of rule
 abbrev pub outOfRule : ℕ
 outOfRule = 27
+
+-- receiver: opening of its own session with another length
+abbrev pub otherLength : ℕ
+otherLength = 36

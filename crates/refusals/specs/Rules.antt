@@ -1,17 +1,21 @@
 -- How a call refuses: its rules stand in a list, each with the number for no, in the order in which they are looked at.
 -- The first that is broken decides; with none broken, the call does what it is for.
 use Prim.Native.Nat.{ℕ, _≤_}
-use mathlib.Core.{Bool.Bool, Bool.true, Bool.not, Bool.cond, List.List, List.[], List._∷_, Logic._≢_, Path._≡_}
+use mathlib.Core.{Bool.Bool, Bool.true, Bool.not, Bool.cond, Bool._&&_, List.List, List.[], List._∷_, Logic._≢_}
+use mathlib.Core.{Path._≡_}
 use lib.Dec.{eqb, ltb}
 use Rattle.refusals.specs.Numbers.{accepted}
 
 infix 30 _over_ _under_ _unlike_
--- what can be wrong: a number over, under or unlike another, or a test that fails
+infix 25 _given_is_
+-- what can be wrong: a number over, under or unlike another, or a test that fails; and any of these only in the case
+-- that two numbers are the same
 pub data Wrong : Type 0 where
   _over_ : ℕ → ℕ → Wrong
   _under_ : ℕ → ℕ → Wrong
   _unlike_ : ℕ → ℕ → Wrong
   unless : Bool → Wrong
+  _given_is_ : Wrong → ℕ → ℕ → Wrong
 
 -- whether it is wrong
 abbrev pub broken : Wrong → Bool
@@ -19,6 +23,7 @@ broken (x over limit) = ltb limit x
 broken (x under limit) = ltb x limit
 broken (x unlike y) = not (eqb x y)
 broken (unless test) = not test
+broken (w given x is y) = eqb x y && broken w
 
 -- what holds where it isn't
 abbrev pub Right : Wrong → Type 0
@@ -26,6 +31,7 @@ Right (x over limit) = x ≤ limit
 Right (x under limit) = limit ≤ x
 Right (x unlike y) = x ≡ y
 Right (unless test) = test ≡ true
+Right (w given x is y) = x ≡ y → Right w
 
 -- a rule, and the number for no if it is broken
 pub record Fault : Type 0 where

@@ -42,3 +42,5 @@ pub const OTHER_SESSION: u8 = 25;
 pub const IMPOSSIBLE: u8 = 26;
 
 pub const OUT_OF_RULE: u8 = 27;
+
+pub const OTHER_LENGTH: u8 = 36;
