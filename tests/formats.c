@@ -184,13 +184,32 @@ static bool in_phase(const struct ends *ends, uint8_t phase) {
     return ends->sender[SEMIVRAKH_SENDER_PHASE_AT] == phase;
 }
 
+/* The opening again is a repeat, answered as the paper says; with another length it is refused, and nothing changes. */
+static void open_again(const struct ends *ends, const char *down) {
+    struct ends after = *ends;
+    uint8_t answer[SEMIVRAKH_ANSWER_MOST];
+    size_t length = 0;
+    const struct block *up = block("link opening"), *other = block("link another length");
+    accepted(down, semivrakh_receiver_hear(after.receiver, sizeof after.receiver, up->bytes, up->length, after.room,
+                                           after.room_length, answer, sizeof answer, &length));
+    same(down, answer, length);
+    uint8_t no = semivrakh_receiver_hear(after.receiver, sizeof after.receiver, other->bytes, other->length, after.room,
+                                         after.room_length, answer, sizeof answer, &length);
+    bool kept = memcmp(after.receiver, ends->receiver, sizeof after.receiver) == 0
+        && memcmp(after.room, ends->room, sizeof after.room) == 0;
+    holds(other->label, no == SEMIVRAKH_OTHER_LENGTH && kept);
+}
+
 static void transfer(const struct block *key, const struct block *pair, const struct block *sound) {
     struct ends ends = begun(key, pair->bytes, sound, SOUND_BYTES);
     round_of(&ends, sound, "link opening", "link holds 0");
+    open_again(&ends, "link holds 0");
     round_of(&ends, sound, "link block 0", "link holds 1");
+    open_again(&ends, "link holds 1");
     same("record sender", ends.sender, sizeof ends.sender);
     same("record receiver", ends.receiver, sizeof ends.receiver);
     round_of(&ends, sound, "link block 1", "link holds 2");
+    open_again(&ends, "link holds 2");
     holds("link holds 2", in_phase(&ends, SEMIVRAKH_DONE) && memcmp(ends.room, sound->bytes, SOUND_BYTES) == 0);
 }
 
