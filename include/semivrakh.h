@@ -285,10 +285,10 @@ uint8_t semivrakh_pack_seal(const uint8_t *name, size_t name_length,
  * unnoticed.
  *
  * A pair of ends must be made fresh together, with the same key and pair name, and neither may be set back to an older
- * record. A sender made anew begins with session 1, and a receiver that was kept refuses all its openings with 25; one
- * set back may open the session in hand again, and is refused with 36 if its sound has another length (with the same
- * length nobody can tell). Then both ends are made anew, under another pair name. The longest pack, 32,882 bytes, is
- * longer than the longest sound.
+ * record. A sender made anew begins with session 1, one set back with a session that was used before. A receiver that
+ * was kept refuses its openings with 25 if their session is below its own, and with 36 if it is its own and the sound
+ * has another length (with the same length nobody can tell). Then both ends are made anew, under another pair name.
+ * The longest pack, 32,882 bytes, is longer than the longest sound.
  */
 
 /* Makes a sender, idle, at the front of `sender`. Refuses, in order: 1, 2, 19 (fewer than 27 bytes for the record). */
