@@ -249,13 +249,12 @@ static void run_empty(struct ends *ends, struct line *line)
  * one would be under the first sound's keystream. Answers what the receiver refuses with. */
 static uint8_t open_again(struct ends *ends, const uint8_t *set_back, const uint8_t *sound, size_t length)
 {
-    struct ends after = *ends;
-    uint8_t frame[SEMIVRAKH_FRAME_MOST], answer[SEMIVRAKH_ANSWER_MOST];
+    uint8_t sender[SEMIVRAKH_SENDER_BYTES], frame[SEMIVRAKH_FRAME_MOST], answer[SEMIVRAKH_ANSWER_MOST];
     size_t frame_length, answer_length;
-    memcpy(after.sender, set_back, sizeof after.sender);
-    must_be_ok(semivrakh_sender_begin(after.sender, sizeof after.sender, sound, length), "beginning again");
-    must_be_ok(semivrakh_sender_send(after.sender, sizeof after.sender, sound, length, frame, sizeof frame,
-                                     &frame_length), "sending again");
+    memcpy(sender, set_back, sizeof sender);
+    must_be_ok(semivrakh_sender_begin(sender, sizeof sender, sound, length), "beginning again");
+    must_be_ok(semivrakh_sender_send(sender, sizeof sender, sound, length, frame, sizeof frame, &frame_length),
+               "sending again");
     return hear(ends, frame, frame_length, answer, &answer_length);
 }
 

@@ -54,6 +54,7 @@ contentFaults r sound (it (block session k run)) =
 contentFaults r sound (it (holds session held)) = []
 contentFaults r sound (it (tooLong session)) = []
 
+-- what speaks against the frame, whatever room there is for the answer
 abbrev pub frameFaults : Receiver → ℕ → Heard → List Fault
 frameFaults r sound h = (unless (forReceiver h) says notAFrame) ∷ contentFaults r sound h
 

@@ -25,4 +25,4 @@ module _ (cipher : Cipher) (r : Receiver) (sound reply frame : List ℕ) where
         ≡ received (record { refusal = otherLength; length = 0; receiver = r }) sound reply
     -- and nothing else is refused so
     pub nothingElse : receiving cipher r sound reply frame .answer .refusal ≡ otherLength
-        → (long : ℕ) × Reopens long × (long ≢ r .length)
+        → (receiverInRule r ≡ true) × ((long : ℕ) × Reopens long × (long ≢ r .length))
