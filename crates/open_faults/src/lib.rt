@@ -1,4 +1,6 @@
-// What a file has wrong: the rules on a pack in their order, apart from what is done with one that is right.
+// What a file has wrong: the rules on a pack in their order, apart from what is done with one that is right. Where the
+// file breaks off, the verdict says in which section, and how many bytes are missing of its count or else of its body.
+use refusals::Verdict;
 ghost use mathlib.Core.Path.{_≡_};
 ghost use Prim.Native.Nat.{_+_, _*_, _≤_};
 ghost use lib.ListN.{length};
@@ -6,8 +8,14 @@ ghost use Rattle.octets.specs.Digits.{numberAt};
 ghost use Rattle.octets.specs.Rows.{numbersAt};
 ghost use Rattle.pack.specs.Faults.{loopSectionFaults, faultsFromSamples, faultsFromKey, fileFaults};
 ghost use Rattle.pack.specs.Layout.{loopsGood, fours};
-ghost use Rattle.refusals.specs.Rules.{first};
+ghost use Rattle.refusals.specs.Rules.{verdictOf, verdict};
 ghost use Rattle.trivium.specs.Keystream as Keystream;
+
+fn verdict(number: u8, lacks: usize) -> Verdict
+    ensures { λ r. ⌜ r ≡ verdictOf number lacks ⌝ }
+{
+    Verdict { number, lacks }
+}
 
 // The number that four bytes from `at` make, all of them there. They are lent by themselves, for the compiler to see
 // that none is missing: it then drops the reading of fewer.
@@ -41,87 +49,87 @@ fn loops_good(file: &[u8], at: usize, count: usize, samples: usize) -> bool
 }
 
 // What a file has wrong from its loop section on, which begins at `at`.
-fn loop_fault(file: &[u8], at: usize, samples: usize) -> u8
+fn loop_fault(file: &[u8], at: usize, samples: usize) -> Verdict
     requires { ⌜ at ≤ length (now file) ⌝ }
-    ensures { λ r. ⌜ r ≡ first (loopSectionFaults (now (file .entry)) at samples) ⌝ }
+    ensures { λ r. ⌜ r ≡ verdict (loopSectionFaults (now (file .entry)) at samples) ⌝ }
 {
     if file.len() < at + 1 {
-        return refusals::CUT_SHORT;
+        return verdict(refusals::CUT_IN_LOOPS, at + 1 - file.len());
     }
     let count = file[at] as usize;
     if pack::MOST_LOOPS < count {
-        return refusals::MANY_LOOPS;
+        return verdict(refusals::MANY_LOOPS, 0);
     }
     let end = at + 1 + 8 * count;
     if file.len() < end {
-        return refusals::CUT_SHORT;
+        return verdict(refusals::CUT_IN_LOOPS, end - file.len());
     }
     if loops_good(file, at + 1, count, samples) {
         if end < file.len() {
-            return refusals::MORE_BYTES;
+            return verdict(refusals::MORE_BYTES, 0);
         }
-        return refusals::ACCEPTED;
+        return verdict(refusals::ACCEPTED, 0);
     }
-    refusals::BAD_LOOP
+    verdict(refusals::BAD_LOOP, 0)
 }
 
 // What a file has wrong from its sample section on, which begins at `at`.
-fn sample_fault(file: &[u8], at: usize) -> u8
+fn sample_fault(file: &[u8], at: usize) -> Verdict
     requires { ⌜ at ≤ length (now file) ⌝ }
-    ensures { λ r. ⌜ r ≡ first (faultsFromSamples (now (file .entry)) at) ⌝ }
+    ensures { λ r. ⌜ r ≡ verdict (faultsFromSamples (now (file .entry)) at) ⌝ }
 {
     if file.len() < at + 4 {
-        return refusals::CUT_SHORT;
+        return verdict(refusals::CUT_IN_SAMPLES, at + 4 - file.len());
     }
     let count = four_there(file, at) as usize;
     if pack::MOST_SAMPLES < count {
-        return refusals::MANY_SAMPLES;
+        return verdict(refusals::MANY_SAMPLES, 0);
     }
     let end = at + 4 + 2 * count;
     if file.len() < end {
-        return refusals::CUT_SHORT;
+        return verdict(refusals::CUT_IN_SAMPLES, end - file.len());
     }
     loop_fault(file, end, count)
 }
 
 // What a file has wrong from its key section on, which begins at `at`.
-fn key_fault(file: &[u8], at: usize) -> u8
+fn key_fault(file: &[u8], at: usize) -> Verdict
     requires { ⌜ at ≤ length (now file) ⌝ }
-    ensures { λ r. ⌜ r ≡ first (faultsFromKey Keystream.trivium (now (file .entry)) at) ⌝ }
+    ensures { λ r. ⌜ r ≡ verdict (faultsFromKey Keystream.trivium (now (file .entry)) at) ⌝ }
 {
     if file.len() < at + 1 {
-        return refusals::CUT_SHORT;
+        return verdict(refusals::CUT_IN_KEY, at + 1 - file.len());
     }
     if file[at] != pack::KEY_COUNT {
-        return refusals::BAD_KEY_COUNT;
+        return verdict(refusals::BAD_KEY_COUNT, 0);
     }
     let end = at + 2 + trivium::VALUE_BYTES;
     if file.len() < end {
-        return refusals::CUT_SHORT;
+        return verdict(refusals::CUT_IN_KEY, end - file.len());
     }
     if pack::LAST_KEY < file[at + 1] {
-        return refusals::BAD_KEY_NUMBER;
+        return verdict(refusals::BAD_KEY_NUMBER, 0);
     }
     sample_fault(file, end)
 }
 
 // What a file has wrong, from its name on: each section goes on to the one behind it.
-pub fn file_fault(file: &[u8]) -> u8
-    ensures { λ r. ⌜ r ≡ first (fileFaults Keystream.trivium (now (file .entry))) ⌝ }
+pub fn file_fault(file: &[u8]) -> Verdict
+    ensures { λ r. ⌜ r ≡ verdict (fileFaults Keystream.trivium (now (file .entry))) ⌝ }
 {
     if file.len() < 1 {
-        return refusals::CUT_SHORT;
+        return verdict(refusals::CUT_IN_NAME, 1 - file.len());
     }
     let count = file[0] as usize;
     if pack::MOST_NAME < count {
-        return refusals::LONG_NAME;
+        return verdict(refusals::LONG_NAME, 0);
     }
     let end = 1 + count;
     if file.len() < end {
-        return refusals::CUT_SHORT;
+        return verdict(refusals::CUT_IN_NAME, end - file.len());
     }
     if pack::name_good(octets::slice(file, 1, count)) {
         return key_fault(file, end);
     }
-    refusals::BAD_NAME
+    verdict(refusals::BAD_NAME, 0)
 }

@@ -5,11 +5,12 @@ ghost use Rattle.refusals.specs.Outcome.{outcome};
 ghost use Rattle.trivium.specs.Keystream as Keystream;
 use pack::Opened;
 
-fn refused_opening(number: u8) -> Opened
-    ensures { λ r. ⌜ r ≡ refusedOpening number ⌝ }
+fn refused_opening(lacks: usize, number: u8) -> Opened
+    ensures { λ r. ⌜ r ≡ refusedOpening lacks number ⌝ }
 {
     Opened {
         refusal: number,
+        lacks,
         samples: 0,
         key: 0,
         loops: 0,
@@ -25,8 +26,9 @@ pub fn survey(file: &[u8]) -> Opened
     ensures { λ r. ⌜ r ≡ surveying Keystream.trivium (now (file .entry)) ⌝ }
 {
     let fault = open_faults::file_fault(file);
-    if fault != refusals::ACCEPTED {
-        return refused_opening(fault);
+    let number = fault.number;
+    if number != refusals::ACCEPTED {
+        return refused_opening(fault.lacks, number);
     }
     let name_length = file[0] as usize;
     let key_at = 1 + name_length;
@@ -37,6 +39,7 @@ pub fn survey(file: &[u8]) -> Opened
     let loop_at = sample_at + 4 + 2 * samples;
     Opened {
         refusal: refusals::ACCEPTED,
+        lacks: 0,
         samples,
         key: file[key_at + 1],
         loops: file[loop_at] as usize,
@@ -59,7 +62,7 @@ pub fn open(file: &[u8], ring: [[u8; 10]; 4], output: &mut [i16]) -> Opened
     }
     let samples = opened.samples;
     if output.len() < samples {
-        return refused_opening(refusals::NO_ROOM);
+        return refused_opening(0, refusals::NO_ROOM);
     }
     let key = opened.key;
     let value_at = opened.value_at;

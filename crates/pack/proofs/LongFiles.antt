@@ -1,26 +1,22 @@
 -- Within the limits no rule looks further than one byte past the longest file: so no longer one is accepted, and what
 -- it is refused for stands in its front.
-use mathlib.Core.{Path._≡_, Path.refl, Path.sym, Path.ap, Path.subst, Path._∙_, Logic._≢_}
-use mathlib.Core.Bool.{Bool, true, false, not}
-use mathlib.Core.List.{List, [], _∷_, _++_}
+use mathlib.Core.{Path._≡_, Path.refl, Path.sym, Path.ap, Path._∙_, Logic._≢_}
+use mathlib.Core.{Bool.Bool, Bool.true, Bool.false, List.List, List.[], List._∷_}
 use Prim.Native.Nat.{ℕ, zero, suc, _+_, _*_, _<_, _≤_}
 use native.Mathlib.Omega.{arith}
-use borrow.Author.Tests.{lt-ltb, le-ltb, le-leb, leb-true, leb-false}
-use lib.{Dec.eqb, Dec.ltb, Dec.leb, IntN.ℤ, IntN.pos, Seq.length-take-le, Seq.take-all, Signed.mag}
+use borrow.Author.Tests.{le-leb, leb-true, leb-false}
+use lib.{Dec.leb, IntN.ℤ, IntN.pos, Seq.length-take-le, Seq.take-all, Signed.mag}
 use lib.ListN.{length, getD, take, drop, replicate, length-append, length-replicate, take-append-drop}
-use lib.ListN.{List·getD-append}
-use Rattle.octets.specs.{Buffers.slice, Digits.number, Digits.numberAt, Rows.numbersAt}
-use Rattle.octets.proofs.{Rows.numbers-front, Rows.length-equal, Slices.slice-front}
-use Rattle.refusals.specs.{Numbers.accepted, Outcome.outcome, Rules._over_, Rules.AllRight, Rules.first}
-use Rattle.refusals.proofs.Faults.{Alike, end, _then_, first-alike}
+use Rattle.refusals.specs.{Numbers.accepted, Outcome.outcome, Rules.AllRight, Rules.first, Rules.verdict}
+use Rattle.refusals.specs.declared.Verdict.{Verdict}
 use Rattle.refusals.proofs.Settled.{settled-left, first-here}
 use Rattle.trivium.specs.Keystream.{trivium}
-use Rattle.pack.specs.{Calls.refusedOpening, Calls.surveying, Calls.openingPack}
-use Rattle.pack.specs.Faults.{loopSectionFaults, faultsFromSamples, faultsFromKey, fileFaults, openFaults}
-use Rattle.pack.specs.Layout.{Parts, parts, Within, nameGood, loopsGood, fours, layout}
-use Rattle.pack.specs.Limits.{mostName, lastKey, mostSamples, mostLoops}
-use Rattle.pack.specs.{Limits.longestFile, Places.byteAt}
+use Rattle.pack.specs.{Calls.refusedOpening, Calls.lacksOf, Calls.surveying, Calls.openingPack}
+use Rattle.pack.specs.Faults.{faultsFromSamples, faultsFromKey, fileFaults, openFaults}
+use Rattle.pack.specs.Layout.{Parts, parts, Within, nameGood, loopsGood, layout}
+use Rattle.pack.specs.Limits.{mostName, mostSamples, longestFile}
 use Rattle.pack.proofs.{AcceptedFiles.key-right, AcceptedFiles.sample-right, AcceptedFiles.loop-right}
+use Rattle.pack.proofs.Growing.{files-grown, parting, alike-beyond}
 use Rattle.pack.proofs.{LaidFiles.length-layout, Theorems.file-numbered, Theorems.file-right}
 use Rattle.pack.proofs.Theorems.{survey-refusal}
 
@@ -85,89 +81,24 @@ longer-refused file long e =
 
 -- ---- what a longer one is refused for
 
-module _ (xs ys : List ℕ) where
-  -- where both are long enough; where both go on
-  both-there : (m n : ℕ) → m ≤ length xs → n ≤ length xs → ltb (length (xs ++ ys)) m ≡ ltb (length xs) n
-  both-there m n hm hn = le-ltb (length (xs ++ ys)) m (simp length-append (omega arith)) ∙ sym (le-ltb (length xs) n hn)
-
-  both-more : (m n : ℕ) → m < length xs → n < length xs → ltb m (length (xs ++ ys)) ≡ ltb n (length xs)
-  both-more m n hm hn = lt-ltb m (length (xs ++ ys)) (simp length-append (omega arith)) ∙ sym (lt-ltb n (length xs) hn)
-
-  same-byte : (i : ℕ) → i < length xs → byteAt (xs ++ ys) i ≡ byteAt xs i
-  same-byte i h = List·getD-append xs ys 0 i h
-
-  -- a section's rules are broken alike if the first run goes on behind the most that can stand there
-  loops-alike : (at samples : ℕ) → at + 66 ≤ length xs
-      → Alike (loopSectionFaults (xs ++ ys) at samples) (loopSectionFaults xs at samples)
-  loops-alike at samples far =
-      let m : ℕ = byteAt (xs ++ ys) at in
-      let n : ℕ = byteAt xs at in
-      let same : m ≡ n = same-byte at (omega arith) in
-      both-there (at + 1) (at + 1) (omega arith) (omega arith)
-      then λ _. _then_ {w = n over mostLoops} (ap (ltb mostLoops) same)
-      (λ limit.
-      both-there (at + 1 + 8 * m) (at + 1 + 8 * n) (omega arith) (omega arith)
-      then λ _.
-      ap (λ (l : List ℕ). not (loopsGood samples l))
-      (ap (λ (k : ℕ). numbersAt (fours (2 * k)) (xs ++ ys) (at + 1)) same
-      ∙ numbers-front (fours (2 * n)) xs ys (at + 1) (omega (arith, length-equal (2 * n) 4)))
-      then λ _. both-more (at + 1 + 8 * m) (at + 1 + 8 * n) (omega arith) (omega arith)
-      then λ _. end)
-
-  samples-alike : (at : ℕ) → at + 32838 ≤ length xs → Alike (faultsFromSamples (xs ++ ys) at) (faultsFromSamples xs at)
-  unfolding faultsFromSamples
-  samples-alike at far =
-      let m : ℕ = numberAt (xs ++ ys) at 4 in
-      let n : ℕ = numberAt xs at 4 in
-      let same : m ≡ n = ap (number 256) (slice-front xs ys at 4 (omega arith)) in
-      both-there (at + 4) (at + 4) (omega arith) (omega arith)
-      then λ _. _then_ {w = n over mostSamples} (ap (ltb mostSamples) same)
-      (λ limit.
-      both-there (at + 4 + 2 * m) (at + 4 + 2 * n) (omega arith) (omega arith)
-      then λ _.
-      subst (λ (k : ℕ). Alike (loopSectionFaults (xs ++ ys) (at + 4 + 2 * k) k)
-      (loopSectionFaults xs (at + 4 + 2 * n) n)) (sym same)
-      (loops-alike (at + 4 + 2 * n) n (omega arith)))
-
-  keys-alike : (at : ℕ) → at + 32850 ≤ length xs
-      → Alike (faultsFromKey trivium (xs ++ ys) at) (faultsFromKey trivium xs at)
-  unfolding faultsFromKey
-  keys-alike at far =
-      both-there (at + 1) (at + 1) (omega arith) (omega arith)
-      then λ _. ap (λ (k : ℕ). not (eqb k 11)) (same-byte at (omega arith))
-      then λ _. both-there (at + 2 + 10) (at + 2 + 10) (omega arith) (omega arith)
-      then λ _. ap (ltb lastKey) (same-byte (at + 1) (omega arith))
-      then λ _. samples-alike (at + 2 + 10) (omega arith)
-
-  files-alike : longestFile < length xs → Alike (fileFaults trivium (xs ++ ys)) (fileFaults trivium xs)
-  unfolding fileFaults
-  files-alike far =
-      let m : ℕ = byteAt (xs ++ ys) 0 in
-      let n : ℕ = byteAt xs 0 in
-      let same : m ≡ n = same-byte 0 (omega arith) in
-      both-there 1 1 (omega arith) (omega arith)
-      then λ _. _then_ {w = n over mostName} (ap (ltb mostName) same)
-      (λ limit.
-      both-there (1 + m) (1 + n) (omega arith) (omega arith)
-      then λ _.
-      ap (λ (l : List ℕ). not (nameGood l)) (ap (slice (xs ++ ys) 1) same ∙ slice-front xs ys 1 n (omega arith))
-      then λ _.
-      subst (λ (k : ℕ). Alike (faultsFromKey trivium (xs ++ ys) (1 + k)) (faultsFromKey trivium xs (1 + n))) (sym same)
-      (keys-alike (1 + n) (omega arith)))
-
--- a front that is longer than the longest file is refused as the whole is
+-- a front that is longer than the longest file comes to what the whole does
 front-refused : (file : List ℕ) (n : ℕ) → longestFile < n → n ≤ length file
-    → first (fileFaults trivium (take n file)) ≡ first (fileFaults trivium file)
+    → verdict (fileFaults trivium (take n file)) ≡ verdict (fileFaults trivium file)
 front-refused file n far long =
-    sym
-    (ap (λ (l : List ℕ). first (fileFaults trivium l)) (sym (take-append-drop n file))
-    ∙ first-alike (files-alike (take n file) (drop n file) (omega (arith, length-take-le n file long))))
+    let front : List ℕ = take n file in
+    let rest : List ℕ = drop n file in
+    let size : length front ≡ n = length-take-le n file long in
+    alike-beyond _ _
+    (parting (omega (arith, length-append front rest)) (files-grown front rest trivium longestFile (omega arith)))
+    (omega arith)
+    ∙ ap (λ (l : List ℕ). verdict (fileFaults trivium l)) (take-append-drop n file)
 
 -- ---- what a caller sees
 
 -- A call that a broken rule of the file ends at once comes to the same on the front and on the whole.
-by-front : {A : Type 0} (call : List ℕ → A) (left : ℕ → A)
-    → ((file : List ℕ) (k : ℕ) → k ≢ accepted → k ≡ first (fileFaults trivium file) → left k ≡ call file)
+by-front : {A : Type 0} (call : List ℕ → A) (left : ℕ → ℕ → A)
+    → ((file : List ℕ) (k : ℕ) → k ≢ accepted → k ≡ first (fileFaults trivium file)
+    → left (lacksOf trivium file) k ≡ call file)
     → (file : List ℕ) (n : ℕ) → longestFile < n
     → call (take n file) ≡ call file
 by-front call left ends file n far = go (leb n (length file)) refl
@@ -177,7 +108,10 @@ by-front call left ends file n far = go (leb n (length file)) refl
         let long : n ≤ length file = leb-true n (length file) e in
         let k : ℕ = first (fileFaults trivium file) in
         let refused : k ≢ accepted = λ z. longer-refused file (omega arith) (survey-refusal trivium file ∙ z) in
-        sym (ends (take n file) k refused (sym (front-refused file n far long))) ∙ ends file k refused refl
+        let same = front-refused file n far long in
+        sym (ends (take n file) k refused (sym (ap (λ (v : Verdict). v .number) same)))
+        ∙ ap (λ (v : Verdict). left (v .lacks) k) same
+        ∙ ends file k refused refl
     go false e = ap call (take-all n file (omega (arith, leb-false n (length file) e)))
 
 pub front-decides : (file : List ℕ) (n : ℕ) → longestFile < n → surveying trivium (take n file) ≡ surveying trivium file
@@ -189,6 +123,6 @@ pub front-opens : (ring : List (List ℕ)) (sound : List ℤ) (file : List ℕ) 
     → openingPack trivium ring (take n file) sound ≡ openingPack trivium ring file sound
 unfolding openingPack openFaults
 front-opens ring sound =
-    by-front (λ (file : List ℕ). openingPack trivium ring file sound) (λ k. outcome (refusedOpening k) sound)
+    by-front (λ (file : List ℕ). openingPack trivium ring file sound) (λ l k. outcome (refusedOpening l k) sound)
     (λ file k no e.
     settled-left _ _ _ k no (first-here (fileFaults trivium file) _ (file-numbered trivium file) k no e))

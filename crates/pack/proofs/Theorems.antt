@@ -19,7 +19,7 @@ use Rattle.trivium.specs.Registers.{State, steps, started}
 use Rattle.trivium.proofs.Steps.{length-bits, bits-below, state-started}
 use Rattle.pack.specs.{Limits.lastKey, Places.sampleCount, Places.partsOf, declared.Opened.Opened}
 use Rattle.pack.specs.{declared.Sealed.Sealed}
-use Rattle.pack.specs.Calls.{refusedOpening, acceptedOpening, surveying, openingPack, sealingPack}
+use Rattle.pack.specs.Calls.{refusedOpening, acceptedOpening, lacksOf, surveying, openingPack, sealingPack}
 use Rattle.pack.specs.Faults.{faultsFromSamples, faultsFromKey, fileFaults, openFaults, sealFaults}
 use Rattle.pack.specs.Layout.{Parts, Within, keyNamed, layout}
 use Rattle.pack.specs.Ring.{keying}
@@ -158,7 +158,7 @@ trivium-bytes key value n =
 -- ---- a refused call leaves everything as given
 
 pub surveying-leaves : (cipher : Cipher) (file : List ℕ)
-    → Leaves (λ o. o .refusal) refusedOpening (surveying cipher file)
+    → Leaves (λ o. o .refusal) (refusedOpening (lacksOf cipher file)) (surveying cipher file)
 unfolding surveying
 surveying-leaves cipher file = settled-leaves _ _ _ (λ o. o .refusal) refl (λ n. refl)
 
@@ -168,7 +168,8 @@ unfolding surveying
 survey-refusal cipher file = settled-number _ _ _ (λ (o : Opened). o .refusal) refl (λ n. refl)
 
 pub opening-leaves : (cipher : Cipher) (ring : List (List ℕ)) (file : List ℕ) (output : List ℤ)
-    → Leaves (λ o. o .answer .refusal) (λ n. outcome (refusedOpening n) output) (openingPack cipher ring file output)
+    → Leaves (λ o. o .answer .refusal) (λ n. outcome (refusedOpening (lacksOf cipher file) n) output)
+    (openingPack cipher ring file output)
 unfolding openingPack
 opening-leaves cipher ring file output = settled-leaves _ _ _ (λ o. o .answer .refusal) refl (λ n. refl)
 

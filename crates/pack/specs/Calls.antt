@@ -3,15 +3,17 @@ use Prim.Native.Nat.{ℕ}
 use mathlib.Core.List.{List}
 use lib.{IntN.ℤ, ListN.length}
 use Rattle.octets.specs.{Buffers.placed, Stream.Cipher}
-use Rattle.refusals.specs.{Numbers.accepted, Outcome.Outcome, Outcome.outcome, Rules.settled}
+use Rattle.refusals.specs.{Numbers.accepted, Outcome.Outcome, Outcome.outcome, Rules.lacking, Rules.settled}
 use Rattle.pack.specs.{Layout.Parts, Layout.layout, declared.Opened.Opened, declared.Sealed.Sealed}
 use Rattle.pack.specs.Faults.{fileFaults, openFaults, sealFaults}
 use Rattle.pack.specs.Places.{nameCount, keyNumber, valuePlace, sampleCount, loopCount, loopsPlace, partsOf}
 
-abbrev pub refusedOpening : ℕ → Opened
-refusedOpening number =
+-- the answer to a refused file, with the number of bytes that it lacks
+abbrev pub refusedOpening : ℕ → ℕ → Opened
+refusedOpening lacks number =
     record {
       refusal = number;
+      lacks = lacks;
       samples = 0;
       key = 0;
       loops = 0;
@@ -26,6 +28,7 @@ abbrev pub acceptedOpening : Cipher → List ℕ → Opened
 acceptedOpening cipher file =
     record {
       refusal = accepted;
+      lacks = 0;
       samples = sampleCount cipher file;
       key = keyNumber file;
       loops = loopCount cipher file;
@@ -35,15 +38,20 @@ acceptedOpening cipher file =
       «loops_at» = loopsPlace cipher file;
     }
 
+-- what is missing of the section in which a file breaks off
+abbrev pub lacksOf : Cipher → List ℕ → ℕ
+lacksOf cipher file = lacking (fileFaults cipher file)
+
 -- what a file says of itself, room or not
 unfoldable pub surveying : Cipher → List ℕ → Opened
-surveying cipher file = settled (fileFaults cipher file) (acceptedOpening cipher file) refusedOpening
+surveying cipher file =
+    settled (fileFaults cipher file) (acceptedOpening cipher file) (refusedOpening (lacksOf cipher file))
 
 unfoldable pub openingPack : Cipher → List (List ℕ) → List ℕ → List ℤ → Outcome Opened ℤ
 openingPack cipher ring file output =
     settled (openFaults cipher file (length output))
     (outcome (acceptedOpening cipher file) (placed output 0 (partsOf cipher ring file .samples)))
-    (λ number. outcome (refusedOpening number) output)
+    (λ number. outcome (refusedOpening (lacksOf cipher file) number) output)
 
 unfoldable pub sealingPack : Cipher → List (List ℕ) → Parts → List ℕ → Outcome Sealed ℕ
 sealingPack cipher ring p output =

@@ -3,9 +3,9 @@ use Prim.Native.Nat.{ℕ, suc, _+_, _*_, _%_}
 use mathlib.Core.List.{List, [], _∷_, _++_}
 use lib.ListN.{length}
 use Rattle.octets.specs.{Buffers.slice, Rows.numbersAt, Stream.Cipher}
-use Rattle.refusals.specs.Numbers.{badValue, noRoom, cutShort, longName, badName, badKeyCount, badKeyNumber}
-use Rattle.refusals.specs.Numbers.{manySamples, manyLoops, badLoop, moreBytes}
-use Rattle.refusals.specs.Rules.{_over_, _under_, _unlike_, unless, Fault, _says_}
+use Rattle.refusals.specs.Numbers.{badValue, noRoom, longName, badName, badKeyCount, badKeyNumber, manySamples}
+use Rattle.refusals.specs.Numbers.{manyLoops, badLoop, moreBytes, cutInName, cutInKey, cutInSamples, cutInLoops}
+use Rattle.refusals.specs.Rules.{_over_, _unlike_, _endsBefore_, unless, Fault, _says_}
 use Rattle.pack.specs.Layout.{Parts, nameGood, loopsGood, fours}
 use Rattle.pack.specs.Limits.{mostName, lastKey, mostSamples, mostLoops}
 use Rattle.pack.specs.Places.{byteAt, nameEnd, keyEnd, samplesIn, samplesEnd, loopsEnd, sampleCount}
@@ -15,9 +15,9 @@ use Rattle.pack.specs.Places.{byteAt, nameEnd, keyEnd, samplesIn, sample
 abbrev pub nameSectionFaults : List ℕ → ℕ → List Fault
 nameSectionFaults file at =
     let count = byteAt file at in
-    (length file under at + 1 says cutShort)
+    (length file endsBefore at + 1 says cutInName)
     ∷ (count over mostName says longName)
-    ∷ (length file under nameEnd file at says cutShort)
+    ∷ (length file endsBefore nameEnd file at says cutInName)
     ∷ (unless (nameGood (slice file (at + 1) count)) says badName)
     ∷ []
 
@@ -25,29 +25,29 @@ nameSectionFaults file at =
 abbrev pub ownCount : Cipher → ℕ → Fault
 ownCount cipher count = count unlike suc (cipher .valueBytes) says badKeyCount
 
--- `verdict` is what is said of the key section's count
+-- `said` is what is said of the key section's count
 abbrev pub keySectionFaults : Cipher → (ℕ → Fault) → List ℕ → ℕ → List Fault
-keySectionFaults cipher verdict file at =
-    (length file under at + 1 says cutShort)
-    ∷ verdict (byteAt file at)
-    ∷ (length file under keyEnd cipher at says cutShort)
+keySectionFaults cipher said file at =
+    (length file endsBefore at + 1 says cutInKey)
+    ∷ said (byteAt file at)
+    ∷ (length file endsBefore keyEnd cipher at says cutInKey)
     ∷ (byteAt file (at + 1) over lastKey says badKeyNumber)
     ∷ []
 
 abbrev pub sampleSectionFaults : List ℕ → ℕ → List Fault
 sampleSectionFaults file at =
-    (length file under at + 4 says cutShort)
+    (length file endsBefore at + 4 says cutInSamples)
     ∷ (samplesIn file at over mostSamples says manySamples)
-    ∷ (length file under samplesEnd file at says cutShort)
+    ∷ (length file endsBefore samplesEnd file at says cutInSamples)
     ∷ []
 
 -- the loops' ends are held to the sample count, and behind the loops nothing stands
 abbrev pub loopSectionFaults : List ℕ → ℕ → ℕ → List Fault
 loopSectionFaults file at samples =
     let count = byteAt file at in
-    (length file under at + 1 says cutShort)
+    (length file endsBefore at + 1 says cutInLoops)
     ∷ (count over mostLoops says manyLoops)
-    ∷ (length file under loopsEnd file at says cutShort)
+    ∷ (length file endsBefore loopsEnd file at says cutInLoops)
     ∷ (unless (loopsGood samples (numbersAt (fours (2 * count)) file (at + 1))) says badLoop)
     ∷ (length file over loopsEnd file at says moreBytes)
     ∷ []

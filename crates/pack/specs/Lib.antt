@@ -1,4 +1,5 @@
 pub mod Calls
+pub mod Cuts
 pub mod Demand2
 pub mod Faults
 pub mod Layout

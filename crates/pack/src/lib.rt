@@ -8,9 +8,11 @@ ghost use Rattle.trivium.specs.Calls.{makingCipher};
 use trivium::Made;
 use trivium::Registers;
 
-// What opening answers. A refused answer has 0 for every other number.
+// What opening answers: `lacks` is how many bytes are missing of the section in which a file breaks off. A refused
+// answer has 0 for every other number.
 pub struct Opened {
     pub refusal: u8,
+    pub lacks: usize,
     pub samples: usize,
     pub key: u8,
     pub loops: usize,

@@ -8,7 +8,7 @@ use lib.Dec.{ltb}
 use lib.ListN.{length, getD, length-map, List·getD-map}
 use Rattle.octets.specs.Digits.{digits, number, numberAfter}
 use Rattle.octets.proofs.Numbers.{length-digits, digit-at, number-digits}
-use Rattle.pack_text.specs.Text.{trimmed, decimal}
+use Rattle.pack_text.specs.Text.{trimmed, decimal, lackingText}
 
 -- ---- the first of some digits
 
@@ -100,6 +100,12 @@ unfolding decimal
 length-decimal x =
     let ds : List ℕ = digits 10 20 x in
     omega (arith, length-map (trimmed ds) (λ d. 48 + d), trimmed-short ds, length-digits 10 20 x)
+
+-- with the space before it, or none
+pub length-lacking : (x : ℕ) → length (lackingText x) ≤ 21
+unfolding lackingText
+length-lacking zero = omega arith
+length-lacking (suc n) = omega (arith, length-decimal (suc n))
 
 -- a number below 10 ^ k has at most k
 pub decimal-short : (k x : ℕ) → 1 ≤ k → x < 10 ^ k → length (decimal x) ≤ k

@@ -1,13 +1,14 @@
 -- Lines behind each other: a word, what it is about and the line's end are put each where the one before it ended, and
 -- so are the lines.
-use mathlib.Core.{Path._≡_, Path.ap, Path.ap₂, Path._∙_, List.List, List.[], List._∷_, List._++_}
-use Prim.Native.Nat.{ℕ, _+_, _≤_}
+use mathlib.Core.{Path._≡_, Path.refl, Path.sym, Path.ap, Path.ap₂, Path._∙_, Logic._≢_}
+use mathlib.Core.List.{List, [], _∷_, _++_, append-assoc, append-nil}
+use Prim.Native.Nat.{ℕ, zero, suc, _+_, _≤_}
 use native.Mathlib.{Nat.zero-add, Omega.arith}
 use lib.ListN.{length, length-append}
 use Rattle.octets.specs.Buffers.{put}
 use Rattle.octets.proofs.Buffers.{length-put, puts-on}
 use Rattle.refusals.specs.Outcome.{Outcome, outcome}
-use Rattle.pack_text.specs.Text.{line, writing}
+use Rattle.pack_text.specs.Text.{decimal, line, refusedWord, lackingText, refusedLine, writing}
 
 pub length-line : (word about : List ℕ) → length (line word about) ≡ length word + length about + 1
 length-line word about = simp length-append (omega arith)
@@ -48,3 +49,16 @@ text-on d xs ys room p q =
     q
     ∙ ap₂ (λ (n : ℕ) (e : List ℕ). outcome n e) (omega arith)
     (puts-on d 0 xs ys (ap (λ (o : Outcome ℕ ℕ). o .buffer) p) (omega arith) (omega arith))
+
+-- a refusal's line, with what is lacking or without
+pub refused-plain : (lacks number : ℕ) → lacks ≡ 0 → line refusedWord (decimal number) ≡ refusedLine lacks number
+unfolding refusedLine lackingText
+refused-plain zero number e = ap (line refusedWord) (sym (append-nil (decimal number)))
+refused-plain (suc n) number e = absurd (omega arith)
+
+pub refused-lacking : (lacks number : ℕ) → lacks ≢ 0
+    → (refusedWord ++ decimal number) ++ line (32 ∷ []) (decimal lacks) ≡ refusedLine lacks number
+unfolding refusedLine lackingText
+refused-lacking zero number h = absurd (h refl)
+refused-lacking (suc n) number h =
+    ap (λ (t : List ℕ). refusedWord ++ t) (sym (append-assoc (decimal number) (32 ∷ decimal (suc n)) (10 ∷ [])))

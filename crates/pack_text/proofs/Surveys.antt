@@ -1,11 +1,12 @@
 -- The text by what a survey answers: both are settled by the pack's rules, once the keys are there.
-use mathlib.Core.{Path._≡_, Path.sym, Path.ap, Path._∙_, List.List, Logic._≢_}
-use Prim.Native.Nat.{ℕ, _≤_}
+use mathlib.Core.{Path._≡_, Path.refl, Path.sym, Path.ap, Path._∙_, List.List, Logic._≢_}
+use Prim.Native.Nat.{ℕ, _<_, _≤_}
 use native.Mathlib.Omega.{arith}
 use lib.ListN.{length, drop}
 use Rattle.octets.specs.{Buffers.slice, Stream.Cipher}
-use Rattle.refusals.specs.{Numbers.accepted, Rules.first}
-use Rattle.refusals.proofs.{Faults.rule-passes, Settled.settled-done, Settled.settled-left}
+use Rattle.refusals.specs.{Numbers.accepted, Numbers.badKey, Rules.first, Rules.lacking, declared.Verdict.Verdict}
+use Rattle.refusals.proofs.Faults.{rule-passes, lacking-passes, verdict-at}
+use Rattle.refusals.proofs.Settled.{settled-done, settled-left, answer-left}
 use Rattle.pack.specs.{Calls.acceptedOpening, Calls.surveying, Faults.fileFaults, declared.Opened.Opened}
 use Rattle.pack.proofs.Theorems.{file-right, survey-refusal}
 use Rattle.pack_text.specs.Text.{packLines, refusedLine, inputFaults, textOf}
@@ -13,6 +14,14 @@ use Rattle.pack_text.specs.Text.{packLines, refusedLine, inputFaults, te
 -- the lines about what was found in a file
 abbrev pub linesOf : List ℕ → Opened → List ℕ
 linesOf file o = packLines (slice file (o .«name_at») (o .«name_length»)) (o .key) (o .samples) (o .loops)
+
+-- too few bytes for the keys
+pub short-keys : (cipher : Cipher) (input : List ℕ) → length input < 40 → refusedLine 0 badKey ≡ textOf cipher input
+unfolding textOf
+short-keys cipher input short =
+    let found = verdict-at 0 (inputFaults cipher input) short refl refl in
+    ap (λ (v : Verdict). refusedLine (v .lacks) badKey) found
+    ∙ settled-left (inputFaults cipher input) _ _ badKey (omega arith) (ap (λ (v : Verdict). v .number) found)
 
 module _ (cipher : Cipher) (input : List ℕ) {o : Opened} (keys : 40 ≤ length input)
     (e : o ≡ surveying cipher (drop 40 input)) where
@@ -38,9 +47,17 @@ module _ (cipher : Cipher) (input : List ℕ) {o : Opened} (keys : 40 ≤ length
 
   pub told-accepted : o .refusal ≡ accepted → linesOf file o ≡ textOf cipher input
   unfolding textOf
-  told-accepted z =
-      ap (linesOf file) (done z) ∙ settled-done (inputFaults cipher input) _ refusedLine (sym z ∙ number)
+  told-accepted z = ap (linesOf file) (done z) ∙ settled-done (inputFaults cipher input) _ _ (sym z ∙ number)
 
-  pub told-refused : o .refusal ≢ accepted → refusedLine (o .refusal) ≡ textOf cipher input
+  -- the keys' own rule lacks nothing, so what is lacking is lacking in the file
+  lacks : o .refusal ≢ accepted → o .lacks ≡ lacking (inputFaults cipher input)
+  unfolding surveying
+  lacks h =
+      ap (λ (a : Opened). a .lacks) (answer-left _ _ _ (λ (a : Opened). a .refusal) refl (λ n. refl) e h)
+      ∙ lacking-passes _ (fileFaults cipher file) keys
+
+  pub told-refused : o .refusal ≢ accepted → refusedLine (o .lacks) (o .refusal) ≡ textOf cipher input
   unfolding textOf
-  told-refused h = settled-left (inputFaults cipher input) _ refusedLine (o .refusal) h number
+  told-refused h =
+      ap (λ (l : ℕ). refusedLine l (o .refusal)) (lacks h)
+      ∙ settled-left (inputFaults cipher input) _ _ (o .refusal) h number

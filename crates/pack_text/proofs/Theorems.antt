@@ -8,21 +8,20 @@ use lib.{Dec.eqb, IntN.ℤ, Seq.drop-at, Seq.take-add, Seq.length-take-le}
 use lib.ListN.{length, take, drop, replicate, length-append, length-take, length-drop}
 use Rattle.octets.specs.{Buffers.slice, Buffers.placed, Digits.numberAfter, Digits.digits, Rows.numbersAt}
 use Rattle.octets.specs.{Stream.Cipher}
-use Rattle.refusals.specs.{Numbers.accepted, Numbers.badKey, Numbers.noRoom, Outcome.outcome}
-use Rattle.refusals.specs.Rules.{_over_, _under_, _says_, AllRight, first, settled}
-use Rattle.refusals.proofs.Faults.{all-right, none-wrong, first-append, rule-passes}
+use Rattle.refusals.specs.{Numbers.accepted, Numbers.noRoom, Outcome.outcome}
+use Rattle.refusals.specs.Rules.{_over_, _says_, AllRight, told, first, lacking, settled}
+use Rattle.refusals.proofs.Faults.{all-right, none-wrong, first-append}
 use Rattle.refusals.proofs.Settled.{by-settled, settled-done, settled-left, settled-map}
 use Rattle.trivium.specs.Keystream.{trivium}
-use Rattle.pack.specs.Calls.{refusedOpening, acceptedOpening, surveying, openingPack}
+use Rattle.pack.specs.Calls.{refusedOpening, acceptedOpening, lacksOf, surveying, openingPack}
 use Rattle.pack.specs.Faults.{faultsFromSamples, faultsFromKey, fileFaults, openFaults}
 use Rattle.pack.specs.{Layout.nameGood, Layout.loopsGood, Limits.mostSamples, Limits.longestFile}
-use Rattle.pack.specs.declared.Opened.{Opened}
 use Rattle.pack.specs.Places.{nameCount, keyNumber, sampleCount, loopCount, partsOf}
 use Rattle.pack.proofs.{LongFiles.front-decides, LongFiles.longer-refused}
-use Rattle.pack.proofs.Theorems.{file-numbered, file-right, survey-refusal}
+use Rattle.pack.proofs.Theorems.{file-numbered, file-right}
 use Rattle.pack_text.specs.Text.{trimmed, decimal, line, nameWord, keyWord, samplesWord, loopsWord, refusedWord}
 use Rattle.pack_text.specs.Text.{packLines, refusedLine, inputFaults, textOf}
-use Rattle.pack_text.proofs.{Decimals.length-decimal, Decimals.decimal-short, Lines.length-line}
+use Rattle.pack_text.proofs.Decimals.{length-decimal, decimal-short, length-lacking}
 use Rattle.pack_text.proofs.Surveys.{linesOf, told-accepted, told-refused}
 
 length-pack : (name : List ℕ) (key samples loops : ℕ) → length name ≤ 32 → key < 10 → samples < 100000 → loops < 10
@@ -37,29 +36,35 @@ length-pack name key samples loops h k s l =
       decimal-short 1 loops (omega arith) l,
     ))
 
+-- of a refusal, two numbers
+length-refused : (lacks number : ℕ) → length (refusedLine lacks number) ≤ 50
+unfolding refusedLine
+length-refused lacks number =
+    simp length-append (omega (arith, length-decimal number, length-lacking lacks))
+
 -- no text is longer
 pub text-fits : (cipher : Cipher) (input : List ℕ) → length (textOf cipher input) ≤ 66
-unfolding textOf fileFaults faultsFromKey faultsFromSamples refusedLine
+unfolding textOf fileFaults faultsFromKey faultsFromSamples
 text-fits cipher input =
-    by-settled (inputFaults cipher input) _ refusedLine (λ t. length t ≤ 66)
+    by-settled (inputFaults cipher input) _ (refusedLine (lacking (inputFaults cipher input))) (λ t. length t ≤ 66)
     (λ e.
     let right : AllRight (inputFaults cipher input) = none-wrong (inputFaults cipher input) tt e in
     let file : List ℕ = drop 40 input in
     length-pack (slice file 1 (nameCount file)) (keyNumber file) (sampleCount cipher file) (loopCount cipher file)
     (simp length-take (omega arith)) (omega arith) (omega arith) (omega arith))
-    (λ n e h. omega (arith, length-line refusedWord (decimal n), length-decimal n))
+    (λ n e h. omega (arith, length-refused (lacking (inputFaults cipher input)) n))
 
 -- ---- the first word
 
 pub accepted-begins : (cipher : Cipher) (input : List ℕ) → first (inputFaults cipher input) ≡ accepted
     → take 5 (textOf cipher input) ≡ nameWord
 unfolding textOf packLines
-accepted-begins cipher input e = ap (take 5) (sym (settled-done (inputFaults cipher input) _ refusedLine (sym e)))
+accepted-begins cipher input e = ap (take 5) (sym (settled-done (inputFaults cipher input) _ _ (sym e)))
 
 pub refused-begins : (cipher : Cipher) (input : List ℕ) → first (inputFaults cipher input) ≢ accepted
     → take 8 (textOf cipher input) ≡ refusedWord
 unfolding textOf refusedLine
-refused-begins cipher input h = ap (take 8) (sym (settled-left (inputFaults cipher input) _ refusedLine _ h refl))
+refused-begins cipher input h = ap (take 8) (sym (settled-left (inputFaults cipher input) _ _ _ h refl))
 
 -- ---- what opening answers
 
@@ -82,8 +87,8 @@ unfolding openingPack surveying settled
 opens-as-surveyed cipher ring file output room =
     settled-map (λ o. o .answer) (openFaults cipher file (length output))
     (outcome (acceptedOpening cipher file) (placed output 0 (partsOf cipher ring file .samples)))
-    (λ n. outcome (refusedOpening n) output)
-    ∙ ap (λ (n : ℕ). cond (eqb n accepted) (acceptedOpening cipher file) (refusedOpening n))
+    (λ n. outcome (refusedOpening (lacksOf cipher file) n) output)
+    ∙ ap (λ (n : ℕ). cond (eqb n accepted) (acceptedOpening cipher file) (refusedOpening (lacksOf cipher file) n))
     (room-enough cipher file (length output) room)
 
 -- the input's text says what opening its pack answers, under any ring
@@ -92,25 +97,14 @@ pub text-opened : (cipher : Cipher) (ring : List (List ℕ)) (input : List ℕ) 
     → let file = drop 40 input in
     let o = openingPack cipher ring file output .answer in
     (o .refusal ≡ accepted → textOf cipher input ≡ linesOf file o)
-    × (o .refusal ≢ accepted → textOf cipher input ≡ refusedLine (o .refusal))
+    × (o .refusal ≢ accepted → textOf cipher input ≡ refusedLine (o .lacks) (o .refusal))
 text-opened cipher ring input output keys room =
     let e = opens-as-surveyed cipher ring (drop 40 input) output room in
     (λ z. sym (told-accepted cipher input keys e z), λ h. sym (told-refused cipher input keys e h))
 
 -- ---- an input that is longer than any pack
 
--- no such file is accepted, so its text is the number of what is wrong
-long-refused : (input : List ℕ) → 40 + longestFile < length input
-    → refusedLine (first (fileFaults trivium (drop 40 input))) ≡ textOf trivium input
-unfolding textOf
-long-refused input long =
-    let file : List ℕ = drop 40 input in
-    let size = length-drop 40 input in
-    settled-left (inputFaults trivium input) _ refusedLine (first (fileFaults trivium file))
-    (λ e. longer-refused file (omega arith) (survey-refusal trivium file ∙ e))
-    (rule-passes (length input under 40 says badKey) (fileFaults trivium file) (omega arith))
-
--- a front with the keys and one byte more than the longest file has the whole input's text
+-- a front with the keys and one byte more than the longest file has the whole input's text: both are refused alike
 pub front-told : (input : List ℕ) (n : ℕ) → 40 + longestFile < n → n ≤ length input
     → textOf trivium (take n input) ≡ textOf trivium input
 front-told input n far long =
@@ -120,13 +114,11 @@ front-told input n far long =
     ap (λ (k : ℕ). drop 40 (take k input)) both
     ∙ ap (drop 40) (take-add 40 (n - 40) input)
     ∙ drop-at (take 40 input) (take (n - 40) file) 40 (length-take-le 40 input (omega arith)) in
-    sym (long-refused (take n input) (omega (arith, length-take-le n input long)))
-    ∙ ap (λ (f : List ℕ). refusedLine (first (fileFaults trivium f))) part
-    ∙ ap refusedLine
-    (sym (survey-refusal trivium (take (n - 40) file))
-    ∙ ap (λ (o : Opened). o .refusal) (front-decides file (n - 40) (omega arith))
-    ∙ survey-refusal trivium file)
-    ∙ long-refused input (omega arith)
+    let refused = longer-refused file (omega (arith, length-drop 40 input)) in
+    sym
+    (told-refused trivium (take n input) (omega (arith, length-take-le n input long))
+    (sym (ap (surveying trivium) part ∙ front-decides file (n - 40) (omega arith))) refused)
+    ∙ told-refused trivium input (omega arith) refl refused
 
 -- ---- the paper's example, whole
 
@@ -135,5 +127,5 @@ pub example-text :
     (replicate 40 0 ++ (1 ∷ 67 ∷ 11 ∷ 2 ∷ []) ++ replicate 10 0 ++ replicate 5 0)
     ≡ line nameWord (67 ∷ []) ++ line keyWord (50 ∷ []) ++ line samplesWord (48 ∷ []) ++ line loopsWord (48 ∷ [])
 unfolding textOf fileFaults faultsFromKey faultsFromSamples packLines decimal trimmed digits
-    settled first nameGood numberAfter loopsGood numbersAt
+    settled first told nameGood numberAfter loopsGood numbersAt
 example-text = refl

@@ -4,7 +4,7 @@ use mathlib.Core.List.{List, [], _∷_, _++_, map}
 use lib.ListN.{length, drop}
 use Rattle.octets.specs.{Buffers.slice, Buffers.put, Digits.digits, Stream.Cipher}
 use Rattle.refusals.specs.{Numbers.badKey, Outcome.Outcome, Outcome.outcome}
-use Rattle.refusals.specs.Rules.{_under_, Fault, _says_, settled}
+use Rattle.refusals.specs.Rules.{_under_, Fault, _says_, lacking, settled}
 use Rattle.pack.specs.{Faults.fileFaults, Places.nameCount, Places.keyNumber, Places.sampleCount, Places.loopCount}
 use Rattle.pack.specs.Ring.{ringBytes}
 
@@ -45,9 +45,14 @@ packLines name key samples loops =
     line nameWord name ++ line keyWord (decimal key) ++ line samplesWord (decimal samples)
     ++ line loopsWord (decimal loops)
 
--- a refusal: its number
-unfoldable pub refusedLine : ℕ → List ℕ
-refusedLine number = line refusedWord (decimal number)
+-- how many bytes are missing, if any are: a space, and their number
+unfoldable pub lackingText : ℕ → List ℕ
+lackingText zero = []
+lackingText (suc n) = 32 ∷ decimal (suc n)
+
+-- a refusal: its number, and behind it what a file lacks that breaks off
+unfoldable pub refusedLine : ℕ → ℕ → List ℕ
+refusedLine lacks number = line refusedWord (decimal number ++ lackingText lacks)
 
 -- the keys have to be all there, and then the pack decides
 abbrev pub inputFaults : Cipher → List ℕ → List Fault
@@ -58,7 +63,7 @@ textOf cipher input =
     let file = drop ringBytes input in
     settled (inputFaults cipher input)
     (packLines (slice file 1 (nameCount file)) (keyNumber file) (sampleCount cipher file) (loopCount cipher file))
-    refusedLine
+    (refusedLine (lacking (inputFaults cipher input)))
 
 -- the text's length, room or not, and the text at the buffer's front if it has room there
 abbrev pub writing : List ℕ → List ℕ → Outcome ℕ ℕ

@@ -6,7 +6,7 @@ ghost use Rattle.octets.specs.Buffers.{put};
 ghost use Rattle.octets.specs.Digits.{digits};
 ghost use Rattle.refusals.specs.Outcome.{outcome};
 ghost use Rattle.trivium.specs.Keystream as Keystream;
-ghost use Rattle.pack_text.specs.Text.{trimmed, decimal, line, nameWord, packLines, textOf, writing};
+ghost use Rattle.pack_text.specs.Text.{trimmed, decimal, line, nameWord, packLines, refusedLine, textOf, writing};
 
 // The decimal digit of a number that has so many digits below it.
 fn digit_above(value: u64, below: usize) -> u8
@@ -93,6 +93,19 @@ fn write_pack(d: &mut [u8], name: &[u8], key: u8, samples: usize, loops: usize) 
     write_line(d, loops_at, b"loops ", loops as u64)
 }
 
+// Writes the line about a refusal, and answers where it ends. What nothing lacks has one number.
+fn write_refused(d: &mut [u8], lacks: usize, number: u8) -> usize
+    requires { ⌜ 128 ≤ length (now d) ⌝ }
+    ensures { λ r. ⌜ outcome r (now (d .exit)) ≡ writing (refusedLine lacks number) (now (d .entry)) ⌝ }
+{
+    if lacks == 0 {
+        return write_line(d, 0, b"refused ", number as u64);
+    }
+    octet_writer::copy(d, 0, b"refused ");
+    let end = write_decimal(d, 8, number as u64);
+    write_line(d, end, b" ", lacks as u64)
+}
+
 // Writes the text where there is room for it, whatever it says.
 fn write_text(d: &mut [u8], input: &[u8]) -> usize
     requires { ⌜ 128 ≤ length (now d) ⌝ }
@@ -100,13 +113,13 @@ fn write_text(d: &mut [u8], input: &[u8]) -> usize
         ≡ writing (textOf Keystream.trivium (now (input .entry))) (now (d .entry)) ⌝ }
 {
     if input.len() < pack::RING_BYTES {
-        return write_line(d, 0, b"refused ", refusals::BAD_KEY as u64);
+        return write_refused(d, 0, refusals::BAD_KEY);
     }
     let file = &input[pack::RING_BYTES..];
     let opened = opener::survey(file);
     let refusal = opened.refusal;
     if refusal != refusals::ACCEPTED {
-        return write_line(d, 0, b"refused ", refusal as u64);
+        return write_refused(d, opened.lacks, refusal);
     }
     let name_at = opened.name_at;
     let name_length = opened.name_length;

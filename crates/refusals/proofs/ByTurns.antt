@@ -3,7 +3,7 @@ use mathlib.Core.{Path.subst, Bool.cond, List.List, List.[], List._∷_}
 use Prim.Native.Nat.{ℕ}
 use lib.Dec.{eqb}
 use Rattle.refusals.specs.Numbers.{accepted}
-use Rattle.refusals.specs.Rules.{Wrong, broken, Right, Fault, _says_, first, settled}
+use Rattle.refusals.specs.Rules.{Wrong, broken, Right, Fault, _says_, told, first, settled}
 use Rattle.refusals.proofs.{Faults.right, Faults.rule-passes, Tests.by-cond}
 
 abbrev ending : {A : Type 0} → A → (ℕ → A) → ℕ → A
@@ -20,7 +20,7 @@ pub data Turns {A : Type 0} (P : A → Type 0) (done : A) (left : ℕ → A) : L
 
 pub by-turns : {A : Type 0} (P : A → Type 0) {faults : List Fault} {done : A} {left : ℕ → A} → Turns P done left faults
     → P (settled faults done left)
-unfolding settled first
+unfolding settled first told
 by-turns P (finally h) = h
 by-turns P {done = done} {left = left} (keeps {w} {n} {faults} kept rest) =
     subst (λ (n : ℕ). P (ending done left n)) (rule-passes (w says n) faults kept) (by-turns P rest)

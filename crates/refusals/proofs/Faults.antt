@@ -1,28 +1,31 @@
--- Lists of faults as plain facts. A rule's test and its meaning agree, once for each of the five kinds; so nothing is
+-- Lists of faults as plain facts. A rule's test and its meaning agree, once for each of the six kinds; so nothing is
 -- refused exactly if every rule of the list holds, whatever the list, as long as no rule's number is 0.
 use Prim.Native.Nat.{ℕ, zero, suc, _<_}
 use mathlib.Core.Bool.{Bool, true, false, not, cond, _&&_}
 use mathlib.Core.List.{List, [], _∷_, _++_}
 use mathlib.Core.Logic.{_≢_}
-use mathlib.Core.Path.{_≡_, refl, sym, ap, _∙_}
+use mathlib.Core.Path.{_≡_, refl, sym, ap, ap₂, _∙_}
 use borrow.Author.Tests.{ltb-true, ltb-false, eqb-true, eqb-false, not-true, not-false, lt-ltb, le-ltb, eq-eqb, ne-eqb}
 use lib.{Dec.T, Dec.eqb, Dec.ltb, ListN.drop}
 use Rattle.refusals.specs.Numbers.{accepted}
-use Rattle.refusals.specs.Rules.{Wrong, _over_, _under_, _unlike_, unless, _given_is_, broken, Right, Fault}
-use Rattle.refusals.specs.Rules.{_says_, AllRight, first, settled}
+use Rattle.refusals.specs.Rules.{Wrong, _over_, _under_, _unlike_, _endsBefore_, unless, _given_is_, broken}
+use Rattle.refusals.specs.Rules.{Right, missing, Fault, AllRight, told, first, lacking, verdictOf, verdict}
+use Rattle.refusals.specs.Rules.{reason, settled}
 use Rattle.refusals.proofs.Tests.{by-cond, and-both, and-first, and-second, and-case, and-not}
 
 pub right : (w : Wrong) → broken w ≡ false → Right w
 right (x over limit) e = ltb-false limit x e
 right (x under limit) e = ltb-false x limit e
 right (x unlike y) e = eqb-true x y (not-false (eqb x y) e)
+right (n endsBefore place) e = ltb-false n place e
 right (unless test) e = not-false test e
 right (w given x is y) e = λ same. right w (and-case (eq-eqb x y same) e)
 
-fine : (w : Wrong) → Right w → broken w ≡ false
+pub fine : (w : Wrong) → Right w → broken w ≡ false
 fine (x over limit) h = le-ltb limit x h
 fine (x under limit) h = le-ltb x limit h
 fine (x unlike y) h = ap not (eq-eqb x y h)
+fine (n endsBefore place) h = le-ltb n place h
 fine (unless test) h = ap not h
 fine (w given x is y) h = and-not (eqb x y) (λ t. fine w (h (eqb-true x y t)))
 
@@ -31,6 +34,7 @@ abbrev pub Broken : Wrong → Type 0
 Broken (x over limit) = limit < x
 Broken (x under limit) = x < limit
 Broken (x unlike y) = x ≢ y
+Broken (n endsBefore place) = n < place
 Broken (unless test) = test ≡ false
 Broken (w given x is y) = (x ≡ y) × Broken w
 
@@ -38,23 +42,65 @@ wrong : (w : Wrong) → Broken w → broken w ≡ true
 wrong (x over limit) h = lt-ltb limit x h
 wrong (x under limit) h = lt-ltb x limit h
 wrong (x unlike y) h = ap not (ne-eqb x y h)
+wrong (n endsBefore place) h = lt-ltb n place h
 wrong (unless test) h = ap not h
 wrong (w given x is y) h = and-both (eq-eqb x y (h .0)) (wrong w (h .1))
 
-is-wrong : (w : Wrong) → broken w ≡ true → Broken w
+pub is-wrong : (w : Wrong) → broken w ≡ true → Broken w
 is-wrong (x over limit) e = ltb-true limit x e
 is-wrong (x under limit) e = ltb-true x limit e
 is-wrong (x unlike y) e = eqb-false x y (not-true (eqb x y) e)
+is-wrong (n endsBefore place) e = ltb-true n place e
 is-wrong (unless test) e = not-true test e
 is-wrong (w given x is y) e =
     (eqb-true x y (and-first (eqb x y) (broken w) e), is-wrong w (and-second (eqb x y) (broken w) e))
+
+-- rule number k is the first that is broken, counted from 0
+abbrev pub FailsAt : ℕ → List Fault → Type 0
+FailsAt k [] = ⊥
+FailsAt zero (f ∷ faults) = Broken (f .wrong)
+FailsAt (suc k) (f ∷ faults) = Right (f .wrong) × FailsAt k faults
+
+-- the rules before number k are right
+abbrev pub RightBefore : ℕ → List Fault → Type 0
+RightBefore zero faults = Unit
+RightBefore (suc k) [] = Unit
+RightBefore (suc k) (f ∷ faults) = Right (f .wrong) × RightBefore k faults
+
+-- ---- what a list tells, whatever is asked of the first broken rule
+
+module _ {A : Type 0} (about : Fault → A) (none : A) where
+  -- all rules hold
+  told-right : (faults : List Fault) → AllRight faults → none ≡ told about none faults
+  unfolding told
+  told-right [] h = refl
+  told-right (f ∷ faults) h = rw (fine (f .wrong) (h .0)) (told-right faults (h .1))
+
+  abbrev toldAt : ℕ → List Fault → A
+  toldAt k [] = none
+  toldAt zero (f ∷ faults) = about f
+  toldAt (suc k) (f ∷ faults) = toldAt k faults
+
+  -- one is broken
+  told-at : (k : ℕ) (faults : List Fault) → FailsAt k faults → toldAt k faults ≡ told about none faults
+  unfolding told
+  told-at k [] h = absurd h
+  told-at zero (f ∷ faults) h = rw (wrong (f .wrong) h)
+  told-at (suc k) (f ∷ faults) h = rw (fine (f .wrong) (h .0)) (told-at k faults (h .1))
+
+  -- the first ones hold, and those behind them decide
+  told-from : (k : ℕ) (faults : List Fault) → RightBefore k faults
+      → told about none (drop k faults) ≡ told about none faults
+  unfolding told
+  told-from zero faults h = refl
+  told-from (suc k) [] h = refl
+  told-from (suc k) (f ∷ faults) h = rw (fine (f .wrong) (h .0)) (told-from k faults (h .1))
 
 -- ---- all rules hold
 
 pub all-right : (faults : List Fault) → AllRight faults → accepted ≡ first faults
 unfolding first
-all-right [] h = refl
-all-right (f ∷ faults) h = rw (fine (f .wrong) (h .0)) (all-right faults (h .1))
+all-right = told-right (λ f. f .number) accepted
 
 -- no rule's number is the one of a call that isn't refused
 abbrev pub numbered : List Fault → Bool
@@ -89,11 +135,11 @@ in-front f false rest w n e = (right (f .wrong) w, e)
 -- a call that isn't refused has kept its first rule
 pub first-right : (f : Fault) (faults : List Fault) → T (ltb accepted (f .number)) → first (f ∷ faults) ≡ accepted
     → Right (f .wrong)
-unfolding first
+unfolding first told
 first-right f faults n e = in-front f (broken (f .wrong)) (first faults) refl n e .0
 
 pub none-wrong : (faults : List Fault) → T (numbered faults) → first faults ≡ accepted → AllRight faults
-unfolding first
+unfolding first told
 none-wrong [] n e = tt
 none-wrong (f ∷ faults) n e =
     let no = numbered-front (ltb accepted (f .number)) (numbered faults) n in
@@ -111,22 +157,15 @@ right-after (x ∷ xs) ys h k = (h .0, right-after xs ys (h .1) k)
 
 -- ---- a rule is broken
 
--- rule number k is the first that is broken, counted from 0
-abbrev pub FailsAt : ℕ → List Fault → Type 0
-FailsAt k [] = ⊥
-FailsAt zero (f ∷ faults) = Broken (f .wrong)
-FailsAt (suc k) (f ∷ faults) = Right (f .wrong) × FailsAt k faults
-
 abbrev pub numberAt : ℕ → List Fault → ℕ
-numberAt k [] = accepted
-numberAt zero (f ∷ faults) = f .number
-numberAt (suc k) (f ∷ faults) = numberAt k faults
+numberAt = toldAt (λ f. f .number) accepted
+
+abbrev pub lackingAt : ℕ → List Fault → ℕ
+lackingAt = toldAt (λ f. missing (f .wrong)) 0
 
 pub refused-at : (k : ℕ) (faults : List Fault) → FailsAt k faults → numberAt k faults ≡ first faults
 unfolding first
-refused-at k [] h = absurd h
-refused-at zero (f ∷ faults) h = rw (wrong (f .wrong) h)
-refused-at (suc k) (f ∷ faults) h = rw (fine (f .wrong) (h .0)) (refused-at k faults (h .1))
+refused-at = told-at (λ f. f .number) accepted
 
 -- ---- and a number tells which rule is broken, if only one has it
 
@@ -145,7 +184,7 @@ differs : (m n : ℕ) → T (not (eqb m n)) → m ≢ n
 differs m n t e = rw (eq-eqb m n e) at t
 
 pub never : (n : ℕ) (faults : List Fault) → T (unlisted n faults) → first faults ≢ n
-unfolding first
+unfolding first told
 never n [] t = λ e. zero-no n (sym e) t
 never n (f ∷ faults) t =
     let other = numbered-front (not (eqb (f .number) n)) (unlisted n faults) t in
@@ -153,7 +192,7 @@ never n (f ∷ faults) t =
     (λ _. differs (f .number) n (other .0)) (λ _. never n faults (other .1))
 
 pub blamed : (n k : ℕ) (faults : List Fault) → T (onlyAt n k faults) → first faults ≡ n → FailsAt k faults
-unfolding first
+unfolding first told
 blamed n k [] t = λ e. absurd (never n [] t e)
 blamed n zero (f ∷ faults) t =
     by-cond (λ (m : ℕ). m ≡ n → Broken (f .wrong)) (broken (f .wrong)) (f .number) (first faults)
@@ -164,22 +203,14 @@ blamed n (suc k) (f ∷ faults) t =
     (λ _ e. absurd (differs (f .number) n (other .0) e))
     (λ b e. (right (f .wrong) b, blamed n k faults (other .1) e))
 
--- the rules before number k are right
-abbrev pub RightBefore : ℕ → List Fault → Type 0
-RightBefore zero faults = Unit
-RightBefore (suc k) [] = Unit
-RightBefore (suc k) (f ∷ faults) = Right (f .wrong) × RightBefore k faults
-
--- and then those from there on decide
+-- the rules from number k on decide if those before it are right
 pub first-from : (k : ℕ) (faults : List Fault) → RightBefore k faults → first (drop k faults) ≡ first faults
 unfolding first
-first-from zero faults h = refl
-first-from (suc k) [] h = refl
-first-from (suc k) (f ∷ faults) h = rw (fine (f .wrong) (h .0)) (first-from k faults (h .1))
+first-from = told-from (λ f. f .number) accepted
 
 -- in two lists the first decides, if one of its rules is broken, and else the second
 pub first-append : (xs ys : List Fault) → T (numbered xs) → first (xs ++ ys) ≡ settled xs (first ys) (λ n. n)
-unfolding first settled
+unfolding first told settled
 first-append [] ys n = refl
 first-append (x ∷ xs) ys n =
     let no = numbered-front (ltb accepted (x .number)) (numbered xs) n in
@@ -193,24 +224,64 @@ first-append (x ∷ xs) ys n =
 
 -- a rule that holds, in front of others
 pub rule-passes : (f : Fault) (faults : List Fault) → Right (f .wrong) → first faults ≡ first (f ∷ faults)
-unfolding first
-rule-passes f faults h = rw (fine (f .wrong) h)
+rule-passes f faults h = first-from 1 (f ∷ faults) (h, tt)
 
--- ---- two lists, rule by rule
+pub lacking-passes : (f : Fault) (faults : List Fault) → Right (f .wrong) → lacking faults ≡ lacking (f ∷ faults)
+unfolding lacking
+lacking-passes f faults h = told-from (λ f. missing (f .wrong)) 0 1 (f ∷ faults) (h, tt)
 
-infixr 5 _then_
--- the same numbers, and rules that are broken alike as long as none before them is
-pub data Alike : List Fault → List Fault → Type 0 where
-  end : Alike [] []
-  _then_ : {v w : Wrong} {n : ℕ} {xs ys : List Fault} → broken v ≡ broken w → (Right w → Alike xs ys)
-      → Alike ((v says n) ∷ xs) ((w says n) ∷ ys)
+-- ---- both numbers of a refusal
 
-pub first-alike : {xs ys : List Fault} → Alike xs ys → first xs ≡ first ys
-unfolding first
-first-alike end = refl
-first-alike (_then_ {v} {w} {n} {xs} {ys} e more) =
-    ap (λ (b : Bool). cond b n (first xs)) e ∙ same (broken w) (λ h. first-alike (more (right w h)))
+pub verdict-right : (faults : List Fault) → AllRight faults → verdictOf accepted 0 ≡ verdict faults
+unfolding lacking
+verdict-right faults h =
+    ap₂ verdictOf (all-right faults h) (told-right (λ f. missing (f .wrong)) 0 faults h)
+
+pub verdict-at : (k : ℕ) (faults : List Fault) {n l : ℕ} → FailsAt k faults → n ≡ numberAt k faults
+    → l ≡ lackingAt k faults
+    → verdictOf n l ≡ verdict faults
+unfolding lacking
+verdict-at k faults h p q =
+    ap₂ verdictOf (p ∙ refused-at k faults h) (q ∙ told-at (λ f. missing (f .wrong)) 0 k faults h)
+
+pub verdict-from : (k : ℕ) (faults : List Fault) → RightBefore k faults → verdict (drop k faults) ≡ verdict faults
+unfolding lacking
+verdict-from k faults h = ap₂ verdictOf (first-from k faults h) (told-from (λ f. missing (f .wrong)) 0 k faults h)
+
+-- the same rule in front of two lists that come to the same where it holds
+pub verdict-tail : (f : Fault) (xs ys : List Fault) → (Right (f .wrong) → verdict xs ≡ verdict ys)
+    → verdict (f ∷ xs) ≡ verdict (f ∷ ys)
+verdict-tail f xs ys same = go (broken (f .wrong)) refl
   where
-    same : (b : Bool) → (b ≡ false → first xs ≡ first ys) → cond b n (first xs) ≡ cond b n (first ys)
-    same true h = refl
-    same false h = h refl
+    go : (b : Bool) → broken (f .wrong) ≡ b → verdict (f ∷ xs) ≡ verdict (f ∷ ys)
+    go true e =
+        let no = is-wrong (f .wrong) e in sym (verdict-at 0 (f ∷ xs) no refl refl) ∙ verdict-at 0 (f ∷ ys) no refl refl
+    go false e =
+        let yes = right (f .wrong) e in
+        sym (verdict-from 1 (f ∷ xs) (yes, tt)) ∙ same yes ∙ verdict-from 1 (f ∷ ys) (yes, tt)
+
+-- what holds of both numbers of each broken rule, and of none, holds of the verdict
+abbrev pub Each : (ℕ → ℕ → Type 0) → List Fault → Type 0
+Each P [] = Unit
+Each P (f ∷ faults) = (Broken (f .wrong) → P (f .number) (missing (f .wrong))) × Each P faults
+
+pub by-verdict : (P : ℕ → ℕ → Type 0) → P accepted 0 → (faults : List Fault) → Each P faults
+    → P (first faults) (lacking faults)
+unfolding first lacking told
+by-verdict P none [] each = none
+by-verdict P none (f ∷ faults) each =
+    go (broken (f .wrong)) (λ e. each .0 (is-wrong (f .wrong) e)) (by-verdict P none faults (each .1))
+  where
+    go : (b : Bool) {m n k l : ℕ} → (b ≡ true → P m k) → P n l → P (cond b m n) (cond b k l)
+    go true here later = here refl
+    go false here later = later
+
+-- ---- which rule is broken
+
+pub reason-here : (f : Fault) (faults : List Fault) → Broken (f .wrong) → 0 ≡ reason (f ∷ faults)
+unfolding reason
+reason-here f faults h = rw (wrong (f .wrong) h)
+
+pub reason-later : (f : Fault) (faults : List Fault) → Right (f .wrong) → suc (reason faults) ≡ reason (f ∷ faults)
+unfolding reason
+reason-later f faults h = rw (fine (f .wrong) h)

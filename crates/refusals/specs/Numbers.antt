@@ -16,10 +16,6 @@ badValue = 2
 abbrev pub notACipher : ℕ
 notACipher = 3
 
--- file ends inside a section
-abbrev pub cutShort : ℕ
-cutShort = 10
-
 -- name count over 32; a name byte outside 32..126
 abbrev pub longName : ℕ
 longName = 11
@@ -86,6 +82,19 @@ impossible = 26
 -- a link record out of rule
 abbrev pub outOfRule : ℕ
 outOfRule = 27
+
+-- file ends inside its name section; its key section; its sample section; its loop section
+abbrev pub cutInName : ℕ
+cutInName = 30
+
+abbrev pub cutInKey : ℕ
+cutInKey = 31
+
+abbrev pub cutInSamples : ℕ
+cutInSamples = 32
+
+abbrev pub cutInLoops : ℕ
+cutInLoops = 33
 
 -- receiver: opening of its own session with another length
 abbrev pub otherLength : ℕ

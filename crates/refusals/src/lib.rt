@@ -7,8 +7,6 @@ pub const BAD_VALUE: u8 = 2;
 
 pub const NOT_A_CIPHER: u8 = 3;
 
-pub const CUT_SHORT: u8 = 10;
-
 pub const LONG_NAME: u8 = 11;
 
 pub const BAD_NAME: u8 = 12;
@@ -43,4 +41,18 @@ pub const IMPOSSIBLE: u8 = 26;
 
 pub const OUT_OF_RULE: u8 = 27;
 
+pub const CUT_IN_NAME: u8 = 30;
+
+pub const CUT_IN_KEY: u8 = 31;
+
+pub const CUT_IN_SAMPLES: u8 = 32;
+
+pub const CUT_IN_LOOPS: u8 = 33;
+
 pub const OTHER_LENGTH: u8 = 36;
+
+// What a file's rules come to: a number for no, and how many bytes the file lacks where it breaks off.
+pub struct Verdict {
+    pub number: u8,
+    pub lacks: usize,
+}

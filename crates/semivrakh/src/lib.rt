@@ -5,7 +5,7 @@ ghost use Rattle.refusals.specs.Outcome.{outcome};
 ghost use Rattle.pack.specs.Layout.{parts};
 ghost use Rattle.record_bytes.specs.Written.{wrote};
 ghost use Rattle.cipher_bytes.specs.Calls.{cipherMake, ciphered, cipherEncipher};
-ghost use Rattle.survey_bytes.specs.Calls.{packSurvey, packLoops};
+ghost use Rattle.survey_bytes.specs.Calls.{packSurvey, packLacks, packLoops};
 ghost use Rattle.pack_bytes.specs.Calls.{packOpened, packOpen, packSeal};
 ghost use Rattle.sender_bytes.specs.Calls.{senderMake, senderBegin, senderSend, senderHear};
 ghost use Rattle.receiver_bytes.specs.Calls.{receiverMake, reception, receiverHear};
@@ -13,7 +13,7 @@ ghost use Rattle.link_status.specs.Calls.{senderStatus, receiverStatus};
 ghost use Rattle.semivrakh.specs.Version.{version};
 
 // Ten thousand times the version's first number, a hundred times its second, and its third.
-const VERSION: u32 = 300;
+const VERSION: u32 = 400;
 
 #[no_mangle]
 pub extern "C" fn semivrakh_version() -> u32
@@ -60,6 +60,13 @@ pub extern "C" fn semivrakh_pack_survey(file: &[u8], answer: &mut [usize]) -> u8
     ensures { λ r. ⌜ outcome r (now (answer .exit)) ≡ packSurvey (now (file .entry)) (now (answer .entry)) ⌝ }
 {
     survey_bytes::survey(file, answer)
+}
+
+#[no_mangle]
+pub extern "C" fn semivrakh_pack_lacks(file: &[u8]) -> usize
+    ensures { λ r. ⌜ r ≡ packLacks (now (file .entry)) ⌝ }
+{
+    survey_bytes::lacks(file)
 }
 
 #[no_mangle]

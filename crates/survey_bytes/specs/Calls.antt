@@ -5,7 +5,7 @@ use lib.ListN.{length}
 use Rattle.octets.specs.{Buffers.placed, Rows.numbersAt}
 use Rattle.refusals.specs.{Numbers.accepted, Outcome.Outcome, Outcome.outcome, Rules.Fault, Rules.settled}
 use Rattle.trivium.specs.Keystream.{trivium}
-use Rattle.pack.specs.{Calls.acceptedOpening, Faults.fileFaults, Faults.roomFaults, Layout.fours, Places.loopCount}
+use Rattle.pack.specs.{Calls.acceptedOpening, Calls.surveying, Faults.fileFaults, Faults.roomFaults, Layout.fours, Places.loopCount}
 use Rattle.pack.specs.{Places.loopsPlace, declared.Opened.Opened}
 use Rattle.record_bytes.specs.Written.{Written, wrote}
 
@@ -25,6 +25,11 @@ packSurvey file answer =
     settled (packSurveyFaults file (length answer))
     (outcome accepted (placed answer 0 (answerNumbers (acceptedOpening trivium file))))
     (λ number. outcome number answer)
+
+-- ---- what a file lacks of the section in which it breaks off
+
+unfoldable pub packLacks : List ℕ → ℕ
+packLacks file = surveying trivium file .lacks
 
 -- ---- the loops, starts and ends in turn, as sealing takes them
 

@@ -14,7 +14,7 @@ ghost use Rattle.pack.specs.Calls.{surveying};
 ghost use Rattle.pack.specs.Faults.{fileFaults, roomFaults};
 ghost use Rattle.pack.specs.Layout.{fours};
 ghost use Rattle.record_bytes.specs.Written.{wrote};
-ghost use Rattle.survey_bytes.specs.Calls.{answerNumbers, packSurvey, packLoops};
+ghost use Rattle.survey_bytes.specs.Calls.{answerNumbers, packSurvey, packLacks, packLoops};
 
 // How many numbers tell what a pack holds.
 pub const NUMBERS: usize = 7;
@@ -67,6 +67,14 @@ pub fn survey(file: &[u8], answer: &mut [usize]) -> u8
     }
     tell(answer, told);
     refusals::ACCEPTED
+}
+
+// How many bytes are missing of the section in which a file breaks off; 0 if it doesn't.
+pub fn lacks(file: &[u8]) -> usize
+    ensures { λ r. ⌜ r ≡ packLacks (now (file .entry)) ⌝ }
+{
+    let told = opener::survey(file);
+    told.lacks
 }
 
 // Reads numbers of four bytes from `at` on to the front of a run that has room for them. Each is lent by itself, for

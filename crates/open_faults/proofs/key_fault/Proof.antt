@@ -3,33 +3,32 @@
 use mathlib.Core.Path.{_∙_}
 use native.Mathlib.Omega.{arith}
 use borrow.Author.Needs.{needs}
-use Rattle.refusals.proofs.Faults.{first-from, refused-at}
+use Rattle.refusals.proofs.Faults.{verdict-at, verdict-from}
 use Rattle.pack.specs.Faults.{faultsFromKey}
 use Rattle.open_faults.proofs.key_fault.Statement.{statement}
 use Rattle.open_faults.proofs.key_fault.Tie as tie
 
 returns : tie.Need-returns
 unfolding faultsFromKey
-returns c = refused-at 0 _ (omega arith)
+returns c = c .verdict .ensures ∙ verdict-at 0 _ (omega arith) (omega arith) (omega arith)
 
 returns-2 : tie.Need-returns-2
 unfolding faultsFromKey
-returns-2 c = refused-at 1 _ (omega arith)
+returns-2 c = c .verdict2 .ensures ∙ verdict-at 1 _ (omega arith) (omega arith) (omega arith)
 
 returns-3 : tie.Need-returns-3
 unfolding faultsFromKey
-returns-3 c = refused-at 2 _ (omega arith)
+returns-3 c = c .verdict3 .ensures ∙ verdict-at 2 _ (omega arith) (omega arith) (omega arith)
 
 returns-4 : tie.Need-returns-4
 unfolding faultsFromKey
-returns-4 c = refused-at 3 _ (omega arith)
+returns-4 c = c .verdict4 .ensures ∙ verdict-at 3 _ (omega arith) (omega arith) (omega arith)
 
 returns-5 : tie.Need-returns-5
 unfolding faultsFromKey
-returns-5 c = c .sample-fault .ensures ∙ first-from 4 _ (omega arith)
+returns-5 c = c .sample-fault .ensures ∙ verdict-from 4 _ (omega arith)
 
 pub key-fault-spec : {M : Type 1} → statement M
 key-fault-spec =
     tie.close
-    (tie.spec (λ c. search needs) returns (λ c. search needs) returns-2 (λ c. search needs) (λ c. search needs)
-    returns-3 (λ c. search needs) (λ c. search needs) returns-4 (λ c κs. search needs) returns-5)
+    (tie.spec (λ c. search needs) (λ c. search needs) (λ c. search needs) (λ c κs. search needs) returns (λ c. search needs) (λ c κs. search needs) returns-2 (λ c. search needs) (λ c. search needs) (λ c. search needs) (λ c κs. search needs) returns-3 (λ c. search needs) (λ c. search needs) (λ c κs. search needs) returns-4 (λ c κs. search needs) returns-5)

@@ -4,23 +4,23 @@ use mathlib.Core.Path.{ap, _∙_}
 use Prim.Native.Nat.{ℕ, _+_, _*_}
 use native.Mathlib.Omega.{arith}
 use borrow.Author.Needs.{needs}
-use Rattle.refusals.specs.Rules.{first}
-use Rattle.refusals.proofs.Faults.{first-from, refused-at}
+use Rattle.refusals.specs.Rules.{verdict}
+use Rattle.refusals.proofs.Faults.{verdict-at, verdict-from}
 use Rattle.pack.specs.Faults.{loopSectionFaults, faultsFromSamples}
 use Rattle.open_faults.proofs.sample_fault.Statement.{statement}
 use Rattle.open_faults.proofs.sample_fault.Tie as tie
 
 returns : tie.Need-returns
 unfolding faultsFromSamples
-returns c = refused-at 0 _ (omega arith)
+returns c = c .verdict .ensures ∙ verdict-at 0 _ (omega arith) (omega arith) (omega arith)
 
 returns-2 : tie.Need-returns-2
 unfolding faultsFromSamples
-returns-2 c = refused-at 1 _ (omega arith)
+returns-2 c = c .verdict2 .ensures ∙ verdict-at 1 _ (omega arith) (omega arith) (omega arith)
 
 returns-3 : tie.Need-returns-3
 unfolding faultsFromSamples
-returns-3 c = refused-at 2 _ (omega arith)
+returns-3 c = c .verdict3 .ensures ∙ verdict-at 2 _ (omega arith) (omega arith) (omega arith)
 
 returns-4 : tie.Need-returns-4
 unfolding faultsFromSamples
@@ -28,11 +28,10 @@ returns-4 c =
     let read = c .before .before .before in
     let p = read .before .before .before .args in
     c .loop-fault .ensures
-    ∙ ap (λ (n : ℕ). first (loopSectionFaults (p .file .now) (p .at + 4 + 2 * n) n)) (read .four-there .ensures)
-    ∙ first-from 3 _ (omega arith)
+    ∙ ap (λ (n : ℕ). verdict (loopSectionFaults (p .file .now) (p .at + 4 + 2 * n) n)) (read .four-there .ensures)
+    ∙ verdict-from 3 _ (omega arith)
 
 pub sample-fault-spec : {M : Type 1} → statement M
 sample-fault-spec =
     tie.close
-    (tie.spec (λ c. search needs) returns (λ c κs. search needs) (λ c. search needs) returns-2 (λ c. search needs)
-    (λ c. search needs) (λ c. search needs) returns-3 (λ c κs. search needs) returns-4)
+    (tie.spec (λ c. search needs) (λ c. search needs) (λ c. search needs) (λ c κs. search needs) returns (λ c κs. search needs) (λ c. search needs) (λ c κs. search needs) returns-2 (λ c. search needs) (λ c. search needs) (λ c. search needs) (λ c. search needs) (λ c κs. search needs) returns-3 (λ c κs. search needs) returns-4)

@@ -9,12 +9,13 @@ use Rattle.octets.specs.{Buffers.slice, Buffers.placed, Buffers.put, Stream.Key
 use Rattle.octets.proofs.{Buffers.put-placed, Slices.length-slice}
 use Rattle.refusals.specs.{Numbers.accepted, Numbers.noRoom, Outcome.outcome}
 use Rattle.refusals.specs.Rules.{AllRight, _over_, _says_, first, Leaves}
-use Rattle.refusals.proofs.Faults.{right-after, refused-at}
+use Rattle.refusals.specs.declared.Verdict.{Verdict}
+use Rattle.refusals.proofs.Faults.{right-after, refused-at, verdict-right}
 use Rattle.refusals.proofs.Settled.{done-if, settled-done, settled-left, first-here, first-later}
 use Rattle.samples.specs.Words.{wordsOf}
 use Rattle.trivium.specs.{Keystream.keystream, Keystream.trivium, Record.state, declared.Made.Made}
 use Rattle.pack.specs.{Ring.keying, declared.Opened.Opened}
-use Rattle.pack.specs.Calls.{refusedOpening, acceptedOpening, surveying, openingPack}
+use Rattle.pack.specs.Calls.{refusedOpening, acceptedOpening, lacksOf, surveying, openingPack}
 use Rattle.pack.specs.Faults.{faultsFromKey, fileFaults, openFaults}
 use Rattle.pack.specs.Places.{keyNumber, valuePlace, sampleCount, bodyPlace, partsOf}
 use Rattle.pack.proofs.AcceptedFiles.{key-right, samples-counted}
@@ -70,11 +71,11 @@ returns c =
     let o : Opened = c .before .survey .result in
     let told : o .refusal ≡ first (fileFaults trivium f) =
     ap (λ (a : Opened). a .refusal) (c .before .survey .ensures) ∙ survey-refusal trivium f in
-    let none : o ≡ refusedOpening (o .refusal) =
-    subst (Leaves (λ a. a .refusal) refusedOpening) (sym (c .before .survey .ensures)) (surveying-leaves trivium f)
+    let none : o ≡ refusedOpening (lacksOf trivium f) (o .refusal) =
+    subst (Leaves (λ a. a .refusal) (refusedOpening (lacksOf trivium f))) (sym (c .before .survey .ensures)) (surveying-leaves trivium f)
     (c .if1 .taken) in
     ap (λ (a : Opened). outcome a (p .output .now)) none
-    ∙ settled-left _ _ (λ n. outcome (refusedOpening n) (p .output .now)) _ (c .if1 .taken)
+    ∙ settled-left _ _ (λ n. outcome (refusedOpening (lacksOf trivium f) n) (p .output .now)) _ (c .if1 .taken)
     (first-here (fileFaults trivium f) ((sampleCount trivium f over length (p .output .now) says noRoom) ∷ [])
     (file-numbered trivium f) _
     (c .if1 .taken) told)
@@ -85,8 +86,10 @@ returns-2 c =
     let e = c .before .before in
     let p = e .before .before .before .args in
     let f = p .file .now in
+    let none : 0 ≡ lacksOf trivium f = ap (λ (v : Verdict). v .lacks) (verdict-right _ (right e)) in
     ap (λ (o : Opened). outcome o (p .output .now)) (c .refused-opening .ensures)
-    ∙ settled-left _ _ (λ n. outcome (refusedOpening n) (p .output .now)) 19 (omega arith)
+    ∙ ap (λ (l : ℕ). outcome (refusedOpening l noRoom) (p .output .now)) none
+    ∙ settled-left _ _ (λ n. outcome (refusedOpening (lacksOf trivium f) n) (p .output .now)) 19 (omega arith)
     (refused-at 0 ((sampleCount trivium f over length (p .output .now) says noRoom) ∷ [])
     (omega (arith, ap (λ (o : Opened). o .samples) (answered e)))
     ∙ first-later (fileFaults trivium f) _ (file-numbered trivium f) (passed e))

@@ -1,14 +1,15 @@
 -- `opener::survey` meets its contract: the first broken rule decides, and with none broken every count stands where the
 -- rules say.
-use mathlib.Core.Path.{_≡_, sym, _∙_}
+use mathlib.Core.Path.{_≡_, sym, ap, _∙_}
 use Prim.Native.Nat.{_+_, _*_, _≤_}
 use native.Mathlib.Omega.{arith}
 use borrow.Author.Needs.{needs}
 use lib.ListN.{length, getD}
 use Rattle.octets.proofs.Numbers.{number-lent}
+use Rattle.refusals.specs.declared.Verdict.{Verdict}
 use Rattle.refusals.proofs.Settled.{settled-done, settled-left}
 use Rattle.trivium.specs.Keystream.{trivium}
-use Rattle.pack.specs.Calls.{surveying}
+use Rattle.pack.specs.Calls.{refusedOpening, surveying}
 use Rattle.pack.specs.Faults.{faultsFromSamples, faultsFromKey, fileFaults}
 use Rattle.pack.specs.Places.{nameCount, keyPlace, valuePlace, samplePlace, sampleCount, bodyPlace, loopPlace}
 use Rattle.pack.proofs.Theorems.{file-right}
@@ -23,13 +24,16 @@ known : (c : tie.Else1)
 unfolding fileFaults faultsFromKey faultsFromSamples
 known c =
     let f = c .before .before .before .args .file .now in
-    let right = file-right trivium f (sym (c .before .file-fault .ensures) ∙ c .if1 .left) in
+    let right = file-right trivium f (sym (ap (λ (v : Verdict). v .number) (c .before .file-fault .ensures)) ∙ c .if1 .left) in
     omega arith
 
 returns : tie.Need-returns
 unfolding surveying
 returns c =
-    c .refused-opening .ensures ∙ settled-left _ _ _ _ (c .before .if1 .taken) (c .before .before .file-fault .ensures)
+    let found = c .before .before .file-fault .ensures in
+    c .refused-opening .ensures
+    ∙ ap (λ (v : Verdict). refusedOpening (v .lacks) (c .before .before .file-fault .result .number)) found
+    ∙ settled-left _ _ _ _ (c .before .if1 .taken) (ap (λ (v : Verdict). v .number) found)
 
 cast-name-length : tie.Need-cast-name-length
 cast-name-length c = omega (arith, c .shared-slice-known2 .given 0)
@@ -41,8 +45,8 @@ samples c =
     let f = c .before .before .before .before .before .before .args .file .now in
     c .four-at .ensures ∙ number-lent f (samplePlace trivium f) 4
 
-cast-t15 : tie.Need-cast-t15
-cast-t15 c =
+cast-t16 : tie.Need-cast-t16
+cast-t16 c =
     let f = c .before .before .before .before .before .before .before .before .args .file .now in
     omega (arith, c .shared-slice-known4 .given (samplePlace trivium f + 4 + 2 * c .before .before .four-at .result))
 
@@ -55,6 +59,7 @@ returns-2 c =
     (λ i.
     record {
       refusal = 0;
+      lacks = 0;
       samples = samples read i;
       key = getD f (keyPlace f + 1) 0;
       loops = getD f (bodyPlace trivium f + 2 * samples read i) 0;
@@ -63,7 +68,7 @@ returns-2 c =
       «value_at» = valuePlace f;
       «loops_at» = bodyPlace trivium f + 2 * samples read i + 1;
     })
-    ∙ settled-done _ _ _ (sym (e .if1 .left) ∙ e .before .file-fault .ensures)
+    ∙ settled-done _ _ _ (sym (e .if1 .left) ∙ ap (λ (v : Verdict). v .number) (e .before .file-fault .ensures))
 
 pub survey-spec : {M : Type 1} → statement M
 survey-spec =
@@ -76,5 +81,5 @@ survey-spec =
     (λ c. omega (arith, known (c .before .before .before), samples c))
     (λ c. omega (arith, known (c .before .before .before)))
     (λ c. omega (arith, known (c .before .before .before .before)))
-    (λ c. omega (arith, known (c .before .before .before .before .before), samples (c .before .before))) cast-t15
+    (λ c. omega (arith, known (c .before .before .before .before .before), samples (c .before .before))) cast-t16
     (λ c. omega (arith, known (c .before .before .before .before .before), samples (c .before .before))) returns-2)

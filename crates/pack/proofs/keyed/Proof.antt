@@ -3,7 +3,7 @@
 use mathlib.Core.Path.{_∙_}
 use native.Mathlib.Omega.{arith}
 use borrow.Author.{Needs.needs, Tests.le-ltb, Tests.eq-eqb}
-use Rattle.refusals.specs.Rules.{first, settled}
+use Rattle.refusals.specs.Rules.{told, first, settled}
 use Rattle.refusals.proofs.Settled.{left-at}
 use Rattle.trivium.specs.Calls.{makingCipher}
 use Rattle.pack.specs.Ring.{keying}
@@ -15,7 +15,7 @@ unfolding keying
 returns c = left-at _ _ _ 0 tt (omega arith)
 
 returns-2 : tie.Need-returns-2
-unfolding keying makingCipher settled first
+unfolding keying makingCipher settled first told
 returns-2 c =
     c .made .ensures .1
     ∙ rw (

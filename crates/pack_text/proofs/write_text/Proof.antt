@@ -5,12 +5,11 @@ use native.Mathlib.Omega.{arith}
 use borrow.Author.Needs.{needs}
 use lib.{ListN.length, ListN.drop, ListN.length-drop, ListN.length-take, Seq.take-all}
 use Rattle.octets.specs.Buffers.{slice}
-use Rattle.refusals.proofs.Settled.{left-at}
 use Rattle.trivium.specs.Keystream.{trivium}
 use Rattle.pack.specs.{Calls.surveying, declared.Opened.Opened}
-use Rattle.pack_text.specs.Text.{packLines, refusedLine, inputFaults, textOf, writing}
+use Rattle.pack_text.specs.Text.{packLines, writing}
 use Rattle.pack_text.proofs.{Lines.text-first, write_text.Statement.statement}
-use Rattle.pack_text.proofs.Surveys.{linesOf, name-short, told-accepted, told-refused}
+use Rattle.pack_text.proofs.Surveys.{linesOf, short-keys, name-short, told-accepted, told-refused}
 use Rattle.pack_text.proofs.write_text.Tie as tie
 
 -- all that stands behind the keys
@@ -34,21 +33,18 @@ module _ (c : tie.After-survey) where
   answered = c .survey .ensures ∙ ap (surveying trivium) (behind input)
 
 returns : tie.Need-returns
-unfolding textOf refusedLine
 returns c =
     let w = c .before .before in
-    let p = w .before .before .before .before .before .before .args in
-    w .write-line .ensures ∙ text-first (p .d .now) (refusedLine 1)
-    ∙ ap (λ (t : List ℕ). writing t (p .d .now))
-    (left-at (inputFaults trivium (p .input .now)) _ refusedLine 0 tt (w .before .before .before .if1 .taken))
+    let p = w .before .before .before .before .before .args in
+    w .write-refused .ensures
+    ∙ ap (λ (t : List ℕ). writing t (p .d .now)) (short-keys trivium (p .input .now) (w .before .before .if1 .taken))
 
 returns-2 : tie.Need-returns-2
-unfolding refusedLine
 returns-2 c =
     let w = c .before .before in
-    let e = w .before .before .before in
+    let e = w .before .before in
     let s = e .before in
-    w .write-line2 .ensures ∙ text-first (d s) (refusedLine (s .survey .result .refusal))
+    w .write-refused2 .ensures
     ∙ ap (λ (t : List ℕ). writing t (d s)) (told-refused trivium (input s) (long s) (answered s) (e .if2 .taken))
 
 write-pack-requires : tie.Need-write-pack-requires
@@ -74,7 +70,6 @@ returns-3 c =
 pub write-text-spec : {M : Type 1} → statement M
 write-text-spec =
     tie.close
-    (tie.spec (λ c. search needs) (λ c. search needs) (λ c κs. search needs) (λ c. search needs) returns
-    (λ c. search needs) (λ c. search needs) (λ c. search needs) (λ c κs. search needs) (λ c. search needs)
-    (λ c. search needs) (λ c κs. search needs) (λ c. search needs) returns-2 (λ c κs. search needs)
-    write-pack-requires (λ c. search needs) returns-3)
+    (tie.spec (λ c κs. search needs) (λ c. search needs) returns (λ c. search needs) (λ c. search needs)
+    (λ c. search needs) (λ c κs. search needs) (λ c κs. search needs) (λ c. search needs) returns-2
+    (λ c κs. search needs) write-pack-requires (λ c. search needs) returns-3)

@@ -8,7 +8,7 @@ use denote.Enum.Declared.{tagOf}
 use lib.Dec.{eqb, ltb}
 use types.Run.{OneOf, miss}
 use Rattle.refusals.specs.Numbers.{accepted, noTransfer, otherSession, impossible, outOfRule}
-use Rattle.refusals.specs.Rules.{first}
+use Rattle.refusals.specs.Rules.{told, first}
 use Rattle.refusals.proofs.Faults.{refused-at}
 use Rattle.frames.specs.{Told.heardAs, declared.Told.Told}
 use Rattle.frames.specs.declared.Told.the-variants as the-told
@@ -22,7 +22,7 @@ Says : Sender → List ℕ → ℕ → Told → Type 0
 Says s run n t = n ≡ first (hearFaults s (heardAs run t))
 
 returns-2 : tie.Need-returns-2
-unfolding Says first
+unfolding Says first told
 returns-2 c run =
     let t = c .before .before .before .before in
     let got = t .what .given .0 in
@@ -34,7 +34,7 @@ returns-2 c run =
     (cond (not (eqb (got .0) (s .session))) otherSession (cond (ltb (stage .2 i) (got .1 .0)) impossible accepted)))))
 
 returns-3 : tie.Need-returns-3
-unfolding Says first
+unfolding Says first told
 returns-3 c run =
     let t = c .before .before .before .before in
     let session = t .what2 .given .0 .0 in

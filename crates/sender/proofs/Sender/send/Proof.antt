@@ -8,7 +8,7 @@ use borrow.Author.{Needs.needs, Tests.eqb-true, Tests.not-false}
 use lib.{Dec.eqb, Dec.ltb, ListN.length}
 use Rattle.octets.specs.Buffers.{put}
 use Rattle.refusals.specs.Numbers.{accepted, noRoom, noTransfer, wrongSound, outOfRule}
-use Rattle.refusals.specs.Rules.{AllRight, first}
+use Rattle.refusals.specs.Rules.{AllRight, told, first}
 use Rattle.refusals.proofs.{Faults.none-wrong, Settled.settled-left}
 use Rattle.trivium.specs.Keystream.{trivium}
 use Rattle.frames.specs.Frames.{bytes}
@@ -27,7 +27,7 @@ reached false n e = e refl
 fault-is : (c : tie.After-transfer-fault) → let p = c .before .before .before .before .before .before .args in
     let due = dueIn trivium (p .self) (p .sound .now) (p .self .phase) in
     c .transfer-fault .result ≡ first (sendFaults (p .self) (p .sound .now) (length due) (length (p .frame .now)))
-unfolding first
+unfolding first told
 fault-is c =
     let p = c .before .before .before .before .before .before .args in
     let stage = c .before .before .before .stage .ensures in

@@ -1,0 +1,199 @@
+-- What a file that breaks off is told is what is missing: with more bytes behind it, it parts from the longer file where
+-- it breaks off, and a front of an accepted file lacks only what it is asked to have.
+use mathlib.Core.{Path._≡_, Path.refl, Path.sym, Path.ap, Path.ap₂, Path.subst, Path._∙_, Logic._≢_}
+use mathlib.Core.{Bool.Bool, Bool.true, Bool.false, Bool.cond, List.List, List.[], List._∷_, List._++_}
+use Prim.Native.Nat.{ℕ, _+_, _-_, _<_, _≤_}
+use native.Mathlib.Omega.{arith}
+use borrow.Author.Tests.{ltb-true, ltb-false, lt-ltb, le-ltb}
+use lib.{Dec.ltb, IntN.ℤ, Seq.length-take-le}
+use lib.ListN.{length, take, drop, length-append, take-append-drop}
+use Rattle.octets.specs.Stream.{Cipher}
+use Rattle.refusals.specs.{Numbers.accepted, Numbers.cutInName, Outcome.Outcome}
+use Rattle.refusals.specs.Rules.{_endsBefore_, Fault, _says_, AllRight, first, lacking, verdictOf, verdict, reason}
+use Rattle.refusals.specs.declared.Verdict.{Verdict}
+use Rattle.refusals.proofs.Faults.{none-wrong, right-both, verdict-right, verdict-at, verdict-from, by-verdict}
+use Rattle.refusals.proofs.Settled.{by-settled, settled-done, settled-left}
+use Rattle.trivium.specs.Keystream.{trivium}
+use Rattle.pack.specs.Calls.{refusedOpening, lacksOf, surveying, openingPack}
+use Rattle.pack.specs.Cuts.{Section, sections, cutAt, CutNumber, Cuts}
+use Rattle.pack.specs.Faults.{faultsFromSamples, faultsFromKey, fileFaults, roomFaults, openFaults}
+use Rattle.pack.specs.Places.{sampleCount}
+use Rattle.pack.specs.declared.Opened.{Opened}
+use Rattle.pack.proofs.Growing.{asked, Parting, cut, other, files-grown, parting, only-asked}
+use Rattle.pack.proofs.AcceptedFiles.{loop-right}
+use Rattle.pack.proofs.Theorems.{file-right, survey-refusal}
+
+-- ---- 30 to 33 and the number of bytes go together, as they do in each rule
+
+abbrev Together : ℕ → ℕ → Type 0
+Together number lacks = (CutNumber number → 0 < lacks) × (0 < lacks → CutNumber number)
+
+-- a rule on what has to be there, and any other
+ends-early : {number short place : ℕ} → CutNumber number → short < place → Together number (place - short)
+ends-early among less = (λ _. omega arith, λ _. among)
+
+reads-on : {number : ℕ} → number < cutInName → Together number 0
+reads-on below = (λ among. absurd (omega arith), λ some. absurd (omega arith))
+
+reads-bad : {number : ℕ} {A : Type 0} → number < cutInName → A → Together number 0
+reads-bad below broken = reads-on below
+
+together : (cipher : Cipher) (file : List ℕ) → Together (first (fileFaults cipher file)) (lacksOf cipher file)
+unfolding fileFaults faultsFromKey faultsFromSamples
+together cipher file =
+    by-verdict Together (reads-on (omega arith)) (fileFaults cipher file)
+    (ends-early (omega arith), (reads-bad (omega arith), (ends-early (omega arith), (reads-bad (omega arith), (ends-early (omega arith), (reads-bad (omega arith), (ends-early (omega arith), (reads-bad (omega arith), (ends-early (omega arith), (reads-bad (omega arith), (ends-early (omega arith), (ends-early (omega arith), (reads-bad (omega arith), (ends-early (omega arith), (reads-bad (omega arith), (reads-bad (omega arith), tt))))))))))))))))
+
+-- ---- the answer's two numbers are those of the file's rules
+
+module _ (cipher : Cipher) where
+  survey-lacks : (file : List ℕ) → surveying cipher file .lacks ≡ lacksOf cipher file
+  unfolding surveying
+  survey-lacks file =
+      by-settled (fileFaults cipher file) _ _ (λ (o : Opened). o .lacks ≡ lacksOf cipher file)
+      (λ e. ap (λ (v : Verdict). v .lacks) (verdict-right _ (file-right cipher file e))) (λ n e h. refl)
+
+  answered : (file : List ℕ) {number lacks : ℕ} → verdictOf number lacks ≡ verdict (fileFaults cipher file)
+      → number ≢ accepted
+      → surveying cipher file ≡ refusedOpening lacks number
+  unfolding surveying
+  answered file {number} {lacks} e refused =
+      sym (settled-left _ _ _ number refused (ap (λ (v : Verdict). v .number) e))
+      ∙ ap (λ (v : Verdict). refusedOpening (v .lacks) number) (sym e)
+
+  opened-alike : (ring : List (List ℕ)) (file : List ℕ) (sound : List ℤ)
+      → openingPack cipher ring file sound .answer .lacks ≡ surveying cipher file .lacks
+  unfolding openingPack openFaults fileFaults faultsFromKey faultsFromSamples
+  opened-alike ring file sound =
+      by-settled (openFaults cipher file (length sound)) _ _
+      (λ (o : Outcome Opened ℤ). o .answer .lacks ≡ surveying cipher file .lacks)
+      (λ e.
+      let right = right-both (fileFaults cipher file) (roomFaults (sampleCount cipher file) (length sound))
+      (none-wrong (openFaults cipher file (length sound)) tt e) .0 in
+      ap (λ (v : Verdict). v .lacks) (verdict-right _ right) ∙ sym (survey-lacks file))
+      (λ n e h. sym (survey-lacks file))
+
+  -- ---- more bytes behind a file
+
+  module _ (file more : List ℕ) where
+    long : length file + length more ≡ length (file ++ more)
+    long = sym (length-append file more)
+
+    -- where the two part
+    parted : Parting (32872 + cipher .valueBytes) (length file) (length (file ++ more)) (fileFaults cipher file)
+        (fileFaults cipher (file ++ more))
+    parted = parting (omega (arith, long)) (files-grown file more cipher (32872 + cipher .valueBytes) (omega arith))
+
+    fewer : length more < surveying cipher file .lacks
+        → surveying cipher (file ++ more)
+        ≡ refusedOpening (surveying cipher file .lacks - length more) (surveying cipher file .refusal)
+    fewer few = go parted
+      where
+        go : Parting (32872 + cipher .valueBytes) (length file) (length (file ++ more)) (fileFaults cipher file)
+            (fileFaults cipher (file ++ more))
+            → surveying cipher (file ++ more)
+            ≡ refusedOpening (surveying cipher file .lacks - length more) (surveying cipher file .refusal)
+        go (cut {n} {p} less most one both later) =
+            let number : n ≡ surveying cipher file .refusal =
+            ap (λ (v : Verdict). v .number) one ∙ sym (survey-refusal cipher file) in
+            let lacks : p - length file ≡ surveying cipher file .lacks =
+            ap (λ (v : Verdict). v .lacks) one ∙ sym (survey-lacks file) in
+            let among = together cipher file .1 (omega (arith, survey-lacks file)) in
+            answered (file ++ more) (both (omega (arith, long)))
+            (omega (arith, among, survey-refusal cipher file))
+            ∙ ap₂ refusedOpening (omega (arith, long)) number
+        go (other none same) = absurd (omega (arith, survey-lacks file))
+
+    enough : 0 < surveying cipher file .lacks → surveying cipher file .lacks ≤ length more
+        → reason (fileFaults cipher file) < reason (fileFaults cipher (file ++ more))
+    enough some all = go parted
+      where
+        go : Parting (32872 + cipher .valueBytes) (length file) (length (file ++ more)) (fileFaults cipher file)
+            (fileFaults cipher (file ++ more))
+            → reason (fileFaults cipher file) < reason (fileFaults cipher (file ++ more))
+        go (cut {n} {p} less most one both later) =
+            let lacks : p - length file ≡ surveying cipher file .lacks =
+            ap (λ (v : Verdict). v .lacks) one ∙ sym (survey-lacks file) in
+            later (omega (arith, long))
+        go (other none same) = absurd (omega (arith, survey-lacks file))
+
+-- ---- a front of an accepted file
+
+-- each section's count ends before it does
+abbrev InOrder : List Section → Type 0
+InOrder [] = Unit
+InOrder (s ∷ more) = (s .counted ≤ s .ended) × InOrder more
+
+-- what is missing of what sections ask for lies in the section of the cut
+asked-cut : (n : ℕ) (all : List Section) → InOrder all → verdict (asked n all) ≡ cutAt n all
+unfolding cutAt
+asked-cut n [] h = sym (verdict-right [] tt)
+asked-cut n (s ∷ more) h = go (ltb n (s .counted)) (ltb n (s .ended)) refl refl (asked-cut n more (h .1))
+  where
+    go : (b c : Bool) → ltb n (s .counted) ≡ b → ltb n (s .ended) ≡ c → verdict (asked n more) ≡ cutAt n more
+        → verdict (asked n (s ∷ more))
+        ≡ cond c (verdictOf (s .number) (cond b (s .counted - n) (s .ended - n))) (cutAt n more)
+    go true true b c rest = sym (verdict-at 0 _ (ltb-true n (s .counted) b) refl refl)
+    go true false b c rest =
+        absurd (omega (arith, h .0, ltb-true n (s .counted) b, ltb-false n (s .ended) c))
+    go false true b c rest =
+        sym (verdict-at 1 _ (ltb-false n (s .counted) b, ltb-true n (s .ended) c) refl refl)
+    go false false b c rest =
+        sym (verdict-from 2 (asked n (s ∷ more)) (ltb-false n (s .counted) b, (ltb-false n (s .ended) c, tt))) ∙ rest
+
+-- a cut in a section has its number; one behind it, that of a section behind it
+cut-among : (n : ℕ) (s : Section) (more : List Section) → CutNumber (s .number)
+    → (s .ended ≤ n → CutNumber (cutAt n more .number))
+    → CutNumber (cutAt n (s ∷ more) .number)
+unfolding cutAt
+cut-among n s more here later = go (ltb n (s .ended)) refl
+  where
+    go : (b : Bool) → ltb n (s .ended) ≡ b
+        → CutNumber
+        (cond b (verdictOf (s .number) (cond (ltb n (s .counted)) (s .counted - n) (s .ended - n))) (cutAt n more)
+        .number)
+    go true b = here
+    go false b = later (ltb-false n (s .ended) b)
+
+module _ (cipher : Cipher) (file : List ℕ) (n : ℕ) (right : AllRight (fileFaults cipher file)) (inside : n < length file)
+  where
+    cut-verdict : verdict (fileFaults cipher (take n file)) ≡ cutAt n (sections cipher file)
+    cut-verdict =
+        let front : List ℕ = take n file in
+        let rest : List ℕ = drop n file in
+        let whole : front ++ rest ≡ file = take-append-drop n file in
+        let size : length front ≡ n = length-take-le n file (omega arith) in
+        only-asked (omega (arith, length-append front rest))
+        (files-grown front rest cipher (32872 + cipher .valueBytes) (omega arith))
+        (subst (λ (f : List ℕ). AllRight (fileFaults cipher f)) (sym whole) right)
+        ∙ ap₂ (λ (k : ℕ) (f : List ℕ). verdict (asked k (sections cipher f))) size whole
+        ∙ asked-cut n (sections cipher file) (omega arith, (omega arith, (omega arith, (omega arith, tt))))
+
+    cut-number : CutNumber (cutAt n (sections cipher file) .number)
+    unfolding fileFaults faultsFromKey faultsFromSamples
+    cut-number =
+        cut-among n _ _ (omega arith)
+        (λ _. cut-among n _ _ (omega arith)
+        (λ _. cut-among n _ _ (omega arith)
+        (λ _. cut-among n _ _ (omega arith)
+        (λ behind. absurd (omega (arith, loop-right cipher file right))))))
+
+-- ---- together
+
+pub cuts : (cipher : Cipher) → Cuts cipher
+cuts cipher =
+    record {
+      cutLacks = λ file among. omega (arith, survey-lacks cipher file, together cipher file .0 (subst CutNumber (survey-refusal cipher file) among));
+      lacksCut = λ file some. subst CutNumber (sym (survey-refusal cipher file)) (together cipher file .1 (omega (arith, survey-lacks cipher file)));
+      fewer = fewer cipher;
+      enough = enough cipher;
+      cut =
+          λ file n e inside.
+          let right = file-right cipher file (sym (survey-refusal cipher file) ∙ e) in
+          let among = cut-number cipher file n right inside in
+          (among, answered cipher (take n file) (sym (cut-verdict cipher file n right inside)) (omega (arith, among)));
+      opened = opened-alike cipher;
+    }
+
+pub cuts-trivium : Cuts trivium
+cuts-trivium = cuts trivium

@@ -1,0 +1,64 @@
+-- What a file that breaks off is told: in which section, and how many bytes are missing there.
+use Prim.Native.Nat.{ℕ, _+_, _-_, _<_, _≤_}
+use mathlib.Core.{Bool.cond, List.List, List.[], List._∷_, List._++_, Path._≡_}
+use lib.{Dec.ltb, IntN.ℤ, ListN.length, ListN.take}
+use Rattle.octets.specs.Stream.{Cipher}
+use Rattle.refusals.specs.Numbers.{accepted, cutInName, cutInKey, cutInSamples, cutInLoops}
+use Rattle.refusals.specs.Rules.{verdictOf, reason}
+use Rattle.refusals.specs.declared.Verdict.{Verdict}
+use Rattle.pack.specs.Calls.{refusedOpening, surveying, openingPack}
+use Rattle.pack.specs.Faults.{fileFaults}
+use Rattle.pack.specs.Places.{keyPlace, samplePlace, bodyPlace, loopPlace, loopsPlace, loopsEnd}
+
+-- a section of a file: the number for a file that ends inside it, where its count ends, and where it ends
+pub record Section : Type 0 where
+  pub number : ℕ
+  pub counted : ℕ
+  pub ended : ℕ
+
+abbrev pub section : ℕ → ℕ → ℕ → Section
+section number counted ended = record { number = number; counted = counted; ended = ended }
+
+-- the four, each beginning where the one before it ends
+abbrev pub sections : Cipher → List ℕ → List Section
+sections cipher file =
+    section cutInName 1 (keyPlace file)
+    ∷ section cutInKey (keyPlace file + 1) (samplePlace cipher file)
+    ∷ section cutInSamples (bodyPlace cipher file) (loopPlace cipher file)
+    ∷ section cutInLoops (loopsPlace cipher file) (loopsEnd file (loopPlace cipher file))
+    ∷ []
+
+-- A cut before byte n lies in the first section that ends behind it. What is missing is the rest of the section's
+-- count or, if that is there, of the section.
+unfoldable pub cutAt : ℕ → List Section → Verdict
+cutAt n [] = verdictOf accepted 0
+cutAt n (s ∷ more) =
+    cond (ltb n (s .ended))
+    (verdictOf (s .number) (cond (ltb n (s .counted)) (s .counted - n) (s .ended - n)))
+    (cutAt n more)
+
+-- 30 to 33
+abbrev pub CutNumber : ℕ → Type 0
+CutNumber n = (cutInName ≤ n) × (n ≤ cutInLoops)
+
+pub record Cuts (cipher : Cipher) : Type 0 where
+  -- 1. some bytes are missing with 30 to 33, and with no other number
+  pub cutLacks : (file : List ℕ) → CutNumber (surveying cipher file .refusal) → 0 < surveying cipher file .lacks
+  pub lacksCut : (file : List ℕ) → 0 < surveying cipher file .lacks → CutNumber (surveying cipher file .refusal)
+  -- 2. with fewer bytes behind a file than it lacks, whatever they are, it is refused with the same number and lacks that
+  -- many fewer
+  pub fewer : (file more : List ℕ) → let o = surveying cipher file in
+      length more < o .lacks
+      → surveying cipher (file ++ more) ≡ refusedOpening (o .lacks - length more) (o .refusal)
+  -- 3. with as many as it lacks, or more, that is no longer the reason: what refuses it then, if anything, is a later rule
+  pub enough : (file more : List ℕ) → let o = surveying cipher file in
+      0 < o .lacks
+      → o .lacks ≤ length more
+      → reason (fileFaults cipher file) < reason (fileFaults cipher (file ++ more))
+  -- 4. an accepted file, cut anywhere, is refused by the section in which the cut lies
+  pub cut : (file : List ℕ) (n : ℕ) → surveying cipher file .refusal ≡ accepted → n < length file
+      → let v = cutAt n (sections cipher file) in
+      CutNumber (v .number) × (surveying cipher (take n file) ≡ refusedOpening (v .lacks) (v .number))
+  -- 5. opening tells the same number of bytes, whatever the ring and the room
+  pub opened : (ring : List (List ℕ)) (file : List ℕ) (sound : List ℤ)
+      → openingPack cipher ring file sound .answer .lacks ≡ surveying cipher file .lacks
