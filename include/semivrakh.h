@@ -6,7 +6,8 @@
  * What holds for every call
  *
  *   - It returns 0, or the number for no. A refused call writes nothing at all: no byte of a record, of a buffer or of
- *     a number that it was lent.
+ *     a number that it was lent. Two calls only tell something, and refuse nothing: semivrakh_pack_lacks and
+ *     semivrakh_version.
  *   - A run is lent as a pointer and the count of its elements. The pointer must be good for that many elements; with a
  *     count of 0 it isn't followed, and may be NULL. A pointer to a single size_t must be good.
  *   - What a call may write overlaps nothing else that it is lent; so enciphering goes from one buffer to another.
@@ -78,8 +79,8 @@
 extern "C" {
 #endif
 
-/* The version of this header, 0.3.0: ten thousand times its first number, a hundred times its second, and its third. */
-#define SEMIVRAKH_VERSION 300
+/* The version of this header, 0.4.0: ten thousand times its first number, a hundred times its second, and its third. */
+#define SEMIVRAKH_VERSION 400
 
 /* The numbers for no. */
 enum {
@@ -87,7 +88,6 @@ enum {
     SEMIVRAKH_BAD_KEY = 1,         /* key not 10 bytes, or ring not 40 */
     SEMIVRAKH_BAD_VALUE = 2,       /* initial value not 10 bytes, or pair name not 6 */
     SEMIVRAKH_NOT_A_CIPHER = 3,    /* cipher record not 48 bytes */
-    SEMIVRAKH_CUT_SHORT = 10,      /* file ends inside a section */
     SEMIVRAKH_LONG_NAME = 11,      /* name over 32 bytes */
     SEMIVRAKH_BAD_NAME = 12,       /* a name byte outside 32..126 */
     SEMIVRAKH_BAD_KEY_COUNT = 13,  /* key count not 11 */
@@ -105,6 +105,10 @@ enum {
     SEMIVRAKH_OTHER_SESSION = 25,  /* frame of another session; receiver: opening of a lower one */
     SEMIVRAKH_IMPOSSIBLE = 26,     /* a count or a block that can't be */
     SEMIVRAKH_OUT_OF_RULE = 27,    /* bytes that are no link record, or one out of rule */
+    SEMIVRAKH_CUT_IN_NAME = 30,    /* file ends inside its name section */
+    SEMIVRAKH_CUT_IN_KEY = 31,     /* file ends inside its key section */
+    SEMIVRAKH_CUT_IN_SAMPLES = 32, /* file ends inside its sample section */
+    SEMIVRAKH_CUT_IN_LOOPS = 33,   /* file ends inside its loop section */
     SEMIVRAKH_OTHER_LENGTH = 36    /* receiver: opening of its own session with another length */
 };
 
@@ -198,8 +202,8 @@ uint8_t semivrakh_cipher_encipher(uint8_t *cipher, size_t cipher_length,
 /*
  * Opens a pack file under the key of the ring that it names. Writes the samples to the front of `samples`, and seven
  * numbers, SEMIVRAKH_OPENED_.., to the front of `answer`. Lend 16,384 samples, and any pack has room.
- * Refuses, in order: 1 (ring not 40 bytes), what the file has wrong from front to back (10 to 18), 19 (too few samples
- * lent for the pack, or fewer than seven numbers).
+ * Refuses, in order: 1 (ring not 40 bytes), what the file has wrong from front to back (11 to 18, and 30 to 33 where it
+ * ends inside a section), 19 (too few samples lent for the pack, or fewer than seven numbers).
  *
  *     int16_t samples[SEMIVRAKH_SAMPLES_MOST];
  *     size_t answer[SEMIVRAKH_OPENED_NUMBERS];
@@ -215,7 +219,8 @@ uint8_t semivrakh_pack_open(const uint8_t *file, size_t file_length,
 /*
  * What a pack file says of itself: the seven numbers that semivrakh_pack_open would answer, given room for the samples.
  * It takes no keys, so a caller can look at a file, allocate, and then open it.
- * Refuses, in order: what the file has wrong from front to back (10 to 18), 19 (fewer than seven numbers lent).
+ * Refuses, in order: what the file has wrong from front to back (11 to 18, and 30 to 33 where it ends inside a
+ * section), 19 (fewer than seven numbers lent).
  */
 uint8_t semivrakh_pack_survey(const uint8_t *file, size_t file_length,
                               size_t *answer, size_t answer_room);
@@ -223,11 +228,28 @@ uint8_t semivrakh_pack_survey(const uint8_t *file, size_t file_length,
 /*
  * The loops of a pack file, starts and ends in turn, as semivrakh_pack_seal takes them. Writes them to the front of
  * `loops` and how many numbers they are, twice the count of loops, to `*loop_numbers`. Lend 16 numbers, and any pack
- * has room. Refuses, in order: what the file has wrong from front to back (10 to 18), 19 (too few numbers lent).
+ * has room.
+ * Refuses, in order: what the file has wrong from front to back (11 to 18, and 30 to 33 where it ends inside a
+ * section), 19 (too few numbers lent).
  */
 uint8_t semivrakh_pack_loops(const uint8_t *file, size_t file_length,
                              uint32_t *loops, size_t loop_room,
                              size_t *loop_numbers);
+
+/*
+ * How many bytes a pack file lacks in the section that it ends inside: more than 0 where semivrakh_pack_survey says 30
+ * to 33, and 0 for every other file, one in order or one with something else wrong first. It takes no keys, refuses
+ * nothing and writes nothing.
+ * Each section is a count and what it counts. A file that ends before a count is whole lacks only the count's own
+ * bytes, since nobody can tell what would follow: an empty file lacks 1, and one that ends after the first byte of its
+ * sample count 3. A file that ends behind a count lacks the rest of what the count promises. Sections after it are in
+ * neither. With fewer bytes more than it lacks, a file is still refused with the same number.
+ *
+ *     uint8_t no = semivrakh_pack_survey(file, file_length, answer, SEMIVRAKH_OPENED_NUMBERS);
+ *     size_t missing = semivrakh_pack_lacks(file, file_length);
+ *     if (missing > 0) fprintf(stderr, "%s: %zu bytes are missing\n", semivrakh_words(no), missing);
+ */
+size_t semivrakh_pack_lacks(const uint8_t *file, size_t file_length);
 
 /*
  * Seals a sound as a pack file under the key of the ring that the key number names. `loops` are starts and ends in

@@ -15,7 +15,6 @@
     ROW(1, "a key is not 10 bytes long, or a ring of keys not 40", "lend the whole key or ring, and no more") \
     ROW(2, "an initial value is not 10 bytes long, or a pair name not 6", "lend all of it, and no more") \
     ROW(3, "a cipher record is not 48 bytes long", "lend the bytes that making wrote, all 48 of them") \
-    ROW(10, "the file ends inside a section", "get the file again: it was cut short") \
     ROW(11, "the name is over 32 bytes long", "opening: this is no pack, or a damaged one; sealing: shorten the name") \
     ROW(12, "the name has a byte that is not printable ASCII", "opening: the file is damaged; sealing: use bytes 32 to 126 only") \
     ROW(13, "the key section's count is not 11", "this is no pack, or a damaged one") \
@@ -33,6 +32,10 @@
     ROW(25, "the frame is of another session", "ignore it: it came late; if every opening is refused so, the ends are no pair any more: pair both anew") \
     ROW(26, "the frame says what can't be", "ignore it; if it comes again, an end was set back or is another: pair both anew") \
     ROW(27, "these bytes are no record of a link end, or one out of rule", "lend the bytes that the last call left; if they are lost, pair both ends anew") \
+    ROW(30, "the file ends inside its name section", "get the file again: it is empty, or was cut short") \
+    ROW(31, "the file ends inside its key section", "get the file again: it was cut short") \
+    ROW(32, "the file ends inside its sample section", "get the file again: it was cut short") \
+    ROW(33, "the file ends inside its loop section", "get the file again: it was cut short") \
     ROW(36, "an opening of the session in hand names another length", "keep what is held; the sender was set back or made anew: pair both ends anew")
 
 /* The refusal in words. A number that no call answers is called so. */

@@ -110,6 +110,17 @@ uint8_t compare_pack_loops(struct run file, struct run loops) {
     return settle(PACK_LOOPS, numbers);
 }
 
+/* It refuses nothing and writes nothing. What it answers is put where other calls write, and so it is compared there. */
+size_t compare_pack_lacks(struct run file) {
+    static size_t (*const lacks[SIDES])(const uint8_t *, size_t) = {semivrakh_pack_lacks, model_pack_lacks};
+    lend_all((struct lending[]){to_read("file", file), number_to_write("what the file lacks")}, 2);
+    for (enum side side = LIBRARY; side < SIDES; side++) {
+        *(size_t *)lent(side, 1) = lacks[side](lent(side, 0), file.count);
+    }
+    settle(PACK_LACKS, (const uint8_t[SIDES]){0});
+    return *(const size_t *)after(1);
+}
+
 uint8_t compare_pack_seal(const struct sealing *sealing) {
     uint8_t numbers[SIDES];
     lend_all((struct lending[]){to_read("name", sealing->name), to_read("ring", sealing->ring),

@@ -25,6 +25,8 @@ uint8_t compare_cipher_encipher(struct run cipher, struct run input, struct run 
 uint8_t compare_pack_open(struct run file, struct run ring, struct run samples, struct run answer);
 uint8_t compare_pack_survey(struct run file, struct run answer);
 uint8_t compare_pack_loops(struct run file, struct run loops);
+/* Hands back what the file lacks. */
+size_t compare_pack_lacks(struct run file);
 
 struct sealing {
     struct run name, ring;

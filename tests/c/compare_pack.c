@@ -1,4 +1,6 @@
 /* Input for opening and sealing packs. */
+#include <inttypes.h>
+#include <stdio.h>
 #include <string.h>
 
 #include "calls.h"
@@ -26,6 +28,13 @@ static struct parts parts;
 static uint8_t file[FILE_ROOM];
 static size_t file_length;
 static size_t opened[SEMIVRAKH_OPENED_NUMBERS]; /* what the last accepted opening answered */
+
+/* A file in pieces: of each section its count and then its body. */
+enum { PIECES = 8, SECTIONS = PIECES / 2 };
+static const char *const piece_names[PIECES] = {
+    "name count", "name", "key count", "key", "sample count", "samples", "loop count", "loops",
+};
+static uint64_t times_cut[PIECES];
 
 /* Loops in rule, among at least one sample. */
 static void choose_loops(size_t numbers, uint32_t samples) {
@@ -114,12 +123,106 @@ static uint8_t open_file(struct run ring, size_t sample_room, size_t answer_room
     return no;
 }
 
+static bool is_cut(uint8_t no) {
+    return no >= SEMIVRAKH_CUT_IN_NAME && no <= SEMIVRAKH_CUT_IN_LOOPS;
+}
+
+/* What a file lacks that surveying answered `no` to. */
+static size_t lack_of(struct run some_file, uint8_t no) {
+    size_t lack = compare_pack_lacks(some_file);
+    if (is_cut(no) && lack == 0) differ("a file that is refused with %d lacks nothing", no);
+    if (!is_cut(no) && lack > 0) differ("a file lacks %zu bytes, and surveying it answers %d", lack, no);
+    return lack;
+}
+
+/* The file, and bytes behind it. */
+static uint8_t longer[FILE_ROOM];
+static size_t longer_length;
+
+/* So many bytes more, whatever they are. Hands back the number for the file with them, and in `*lack` what it lacks. */
+static uint8_t lengthen(size_t more, size_t *lack) {
+    memcpy(longer + longer_length, noise(more), more);
+    longer_length += more;
+    uint8_t no = compare_pack_survey(run_of(longer, longer_length), room(SEMIVRAKH_OPENED_NUMBERS));
+    *lack = lack_of(run_of(longer, longer_length), no);
+    return no;
+}
+
+/* What lacking means: with fewer bytes more the file is refused with the same number, and lacks as many fewer. With all
+ * of them it isn't; but one that ended in a count may end in the body that the count promises. Answers if it does. */
+static bool ends_in_body_then(uint8_t no, size_t lack) {
+    size_t fewer = shorter_than(lack), rest, body;
+    memcpy(longer, file, file_length);
+    longer_length = file_length;
+    if (lengthen(fewer, &rest) != no || rest != lack - fewer) {
+        differ("a file lacks %zu bytes, and not %zu when it has %zu of them", lack, lack - fewer, fewer);
+    }
+    if (lengthen(rest, &body) != no) return false;
+    if (lengthen(body, &rest) == no) differ("a file has all that it lacks, and is still refused with %d", no);
+    return true;
+}
+
+/* What was last found of the file. */
+static struct {
+    uint8_t no;
+    size_t lack;
+    bool ends_in_body_then; /* when it is cut and gets what it lacks */
+} surveyed;
+
 /* Surveys the file that opening answered `opening` to. */
 static void survey_file(uint8_t opening, size_t answer_room) {
-    uint8_t no = compare_pack_survey(lent_file(), room(answer_room));
-    if (no == 0 && opening == 0 && memcmp(after(1), opened, sizeof opened) != 0) {
+    surveyed.no = compare_pack_survey(lent_file(), room(answer_room));
+    if (surveyed.no == 0 && opening == 0 && memcmp(after(1), opened, sizeof opened) != 0) {
         differ("a pack is surveyed with other numbers than it is opened with");
     }
+    surveyed.lack = lack_of(lent_file(), surveyed.no);
+    surveyed.ends_in_body_then = is_cut(surveyed.no) && ends_in_body_then(surveyed.no, surveyed.lack);
+}
+
+/* Where a piece ends in a file of these parts. */
+static size_t piece_end(size_t piece) {
+    const size_t lengths[PIECES] = {
+        1, parts.name_length, 1, 11, 4, 2 * parts.samples, 1, 4 * parts.loop_numbers,
+    };
+    size_t end = 0;
+    for (size_t i = 0; i <= piece; i++) end += lengths[i];
+    return end;
+}
+
+/* The piece that a front of such a file ends in. */
+static size_t piece_cut(size_t front) {
+    size_t piece = 0;
+    while (piece_end(piece) <= front) piece++;
+    return piece;
+}
+
+static uint8_t number_of_cut(size_t piece) {
+    return (uint8_t)(SEMIVRAKH_CUT_IN_NAME + piece / 2);
+}
+
+/* A front of a file of these parts, refused as cut, was refused for the piece that it ends in. */
+static void look_at_cut(void) {
+    if (!is_cut(surveyed.no)) return;
+    size_t piece = piece_cut(file_length), lack = piece_end(piece) - file_length;
+    bool in_body = piece % 2 == 1;
+    if (surveyed.no != number_of_cut(piece)) differ("a file ends in its %s, and the answer says not", piece_names[piece]);
+    if (surveyed.lack != lack) differ("a file lacks %zu bytes of its %s", lack, piece_names[piece]);
+    if (in_body && surveyed.ends_in_body_then) differ("a file has its whole %s, and is cut in it", piece_names[piece]);
+    times_cut[piece]++;
+}
+
+/* Leaves of the file a part of this piece, or nothing of it. */
+static void cut_in(size_t piece) {
+    size_t end = piece_end(piece), begin = piece == 0 ? 0 : piece_end(piece - 1);
+    file_length = begin + shorter_than(end - begin);
+}
+
+/* Cuts the file in the first section that the set wants cut: in its body, if the count is to be seen. */
+static void cut_as(faults set) {
+    static const uint8_t of_count[SECTIONS] = {11, 13, 15, 16};
+    size_t section = 0;
+    while (section < SECTIONS && !has(set, number_of_cut(2 * section))) section++;
+    if (section < SECTIONS) cut_in(2 * section + (has(set, of_count[section]) || random_once_in(2)));
 }
 
 /* Survey and loops take no ring, and list no 1: it is passed over where their number is planned. */
@@ -140,17 +243,18 @@ static void open_with(faults set) {
         else answer_room = shorter_than(7);
     }
     write_file();
+    cut_as(set);
     plan_first(PACK_OPEN, set);
     uint8_t no = open_file(room(has(set, 1) ? wrong_length(40) : 40), sample_room, answer_room);
     plan_first(PACK_SURVEY, set);
     survey_file(no, enough_but_for(set, 7));
+    look_at_cut();
     plan_first(PACK_LOOPS, set);
     compare_pack_loops(lent_file(), room(enough_but_for(set, parts.loop_numbers)));
 }
 
-/* A file that ends early is refused by where it ends, so 10 is left to damaged_packs. */
 void opening_packs(void) {
-    with_each_fault_set(PACK_OPEN, fault(10), open_with);
+    with_each_fault_set(PACK_OPEN, 0, open_with);
 }
 
 /* What is wrong with a file is the same without keys; the room is another thing. */
@@ -170,12 +274,16 @@ static void read_file(void) {
     read_file_in(enough(parts.samples));
 }
 
+/* What is left of a file of the parts, when it was cut. */
+static void read_front(void) {
+    plan_number(number_of_cut(piece_cut(file_length)));
+    read_file();
+    look_at_cut();
+}
+
 static void read_every_front(void) {
     size_t whole = file_length;
-    for (file_length = 0; file_length < whole; file_length++) {
-        plan_number(10);
-        read_file();
-    }
+    for (file_length = 0; file_length < whole; file_length++) read_front();
 }
 
 static void read_lengthened(void) {
@@ -305,8 +413,7 @@ static void read_with_one_change(void) {
     read_file();
     file[place] = right;
     file_length = place;
-    plan_number(10);
-    read_file();
+    read_front();
     file_length = whole;
 }
 
@@ -319,6 +426,32 @@ void large_packs(void) {
     seal_shape(random_below(33), samples, random_below(9));
     read_with_one_change();
     for (int i = 0; !largest && i < 5; i++) read_with_one_change();
+}
+
+/* Packs of any size, none of their pieces empty, cut in each piece. */
+void cut_packs(void) {
+    for (int i = 0; i < 8; i++) {
+        size_t samples = random_between(1, i == 0 ? SEMIVRAKH_SAMPLES_MOST : 300);
+        choose_parts(random_between(1, SEMIVRAKH_NAME_MOST), samples, random_between(1, SEMIVRAKH_LOOPS_MOST));
+        write_file();
+        for (size_t piece = 0; piece < PIECES; piece++) {
+            cut_in(piece);
+            read_front();
+        }
+    }
+}
+
+bool cuts_often_enough(uint64_t each) {
+    bool enough = true;
+    printf("cut in its     ");
+    for (size_t i = 0; i < PIECES; i++) printf(" %s:%" PRIu64, piece_names[i], times_cut[i]);
+    printf("\n");
+    for (size_t i = 0; i < PIECES; i++) {
+        if (times_cut[i] >= each) continue;
+        printf("FAILED: a file was cut in its %s only %" PRIu64 " times\n", piece_names[i], times_cut[i]);
+        enough = false;
+    }
+    return enough;
 }
 
 static void choose_random_file(void) {

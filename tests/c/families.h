@@ -2,6 +2,9 @@
 #ifndef FAMILIES_H
 #define FAMILIES_H
 
+#include <stdbool.h>
+#include <stdint.h>
+
 void making_ciphers(void);
 void enciphering(void);
 void streams_in_pieces(void);
@@ -13,7 +16,10 @@ void opening_packs(void);
 void packs_of_all_shapes(void);
 void large_packs(void);
 void damaged_packs(void);
+void cut_packs(void);
 void random_packs(void);
+/* Prints how often a file was cut in each count and in each body, and answers if each was so at least so many times. */
+bool cuts_often_enough(uint64_t each);
 
 void making_ends(void);
 void beginning(void);

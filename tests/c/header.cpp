@@ -32,6 +32,7 @@ static bool pack_comes_back() {
     no |= semivrakh_pack_open(pack, length, ring, sizeof ring, opened, 2, numbers, SEMIVRAKH_OPENED_NUMBERS);
     no |= semivrakh_pack_loops(pack, length, loops, 2, &loop_numbers);
     return no == SEMIVRAKH_OK && loop_numbers == 2 && std::memcmp(surveyed, numbers, sizeof numbers) == 0
+        && semivrakh_pack_lacks(pack, length) == 0 && semivrakh_pack_lacks(pack, length - 1) == 1
         && std::memcmp(opened, samples, sizeof samples) == 0 && std::memcmp(loops, loop, sizeof loop) == 0;
 }
 
@@ -55,11 +56,12 @@ static bool empty_sound_arrives() {
 // All that the header's enum has.
 static const unsigned refusals[] = {
     SEMIVRAKH_OK,             SEMIVRAKH_BAD_KEY,        SEMIVRAKH_BAD_VALUE,      SEMIVRAKH_NOT_A_CIPHER,
-    SEMIVRAKH_CUT_SHORT,      SEMIVRAKH_LONG_NAME,      SEMIVRAKH_BAD_NAME,       SEMIVRAKH_BAD_KEY_COUNT,
-    SEMIVRAKH_BAD_KEY_NUMBER, SEMIVRAKH_MANY_SAMPLES,   SEMIVRAKH_MANY_LOOPS,     SEMIVRAKH_BAD_LOOP,
-    SEMIVRAKH_MORE_BYTES,     SEMIVRAKH_NO_ROOM,        SEMIVRAKH_NO_SESSION,     SEMIVRAKH_LONG_SOUND,
-    SEMIVRAKH_NO_TRANSFER,    SEMIVRAKH_WRONG_SOUND,    SEMIVRAKH_NOT_A_FRAME,    SEMIVRAKH_OTHER_SESSION,
-    SEMIVRAKH_IMPOSSIBLE,     SEMIVRAKH_OUT_OF_RULE,    SEMIVRAKH_OTHER_LENGTH,
+    SEMIVRAKH_LONG_NAME,      SEMIVRAKH_BAD_NAME,       SEMIVRAKH_BAD_KEY_COUNT,  SEMIVRAKH_BAD_KEY_NUMBER,
+    SEMIVRAKH_MANY_SAMPLES,   SEMIVRAKH_MANY_LOOPS,     SEMIVRAKH_BAD_LOOP,       SEMIVRAKH_MORE_BYTES,
+    SEMIVRAKH_NO_ROOM,        SEMIVRAKH_NO_SESSION,     SEMIVRAKH_LONG_SOUND,     SEMIVRAKH_NO_TRANSFER,
+    SEMIVRAKH_WRONG_SOUND,    SEMIVRAKH_NOT_A_FRAME,    SEMIVRAKH_OTHER_SESSION,  SEMIVRAKH_IMPOSSIBLE,
+    SEMIVRAKH_OUT_OF_RULE,    SEMIVRAKH_CUT_IN_NAME,    SEMIVRAKH_CUT_IN_KEY,     SEMIVRAKH_CUT_IN_SAMPLES,
+    SEMIVRAKH_CUT_IN_LOOPS,   SEMIVRAKH_OTHER_LENGTH,
 };
 
 static bool is_refusal(unsigned number) {

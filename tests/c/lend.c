@@ -8,12 +8,13 @@
 #include "random.h"
 
 /* The header's refusals, call by call. */
-const uint8_t listed_refusals[CALLS][12] = {
+const uint8_t listed_refusals[CALLS][REFUSALS_MOST] = {
     [CIPHER_MAKE] = {1, 2, 19},
     [CIPHER_ENCIPHER] = {3, 19},
-    [PACK_OPEN] = {1, 10, 11, 12, 13, 14, 15, 16, 17, 18, 19},
-    [PACK_SURVEY] = {10, 11, 12, 13, 14, 15, 16, 17, 18, 19},
-    [PACK_LOOPS] = {10, 11, 12, 13, 14, 15, 16, 17, 18, 19},
+    [PACK_OPEN] = {1, 11, 30, 12, 13, 31, 14, 15, 32, 16, 33, 17, 18, 19},
+    [PACK_SURVEY] = {11, 30, 12, 13, 31, 14, 15, 32, 16, 33, 17, 18, 19},
+    [PACK_LOOPS] = {11, 30, 12, 13, 31, 14, 15, 32, 16, 33, 17, 18, 19},
+    [PACK_LACKS] = {0},
     [PACK_SEAL] = {1, 11, 12, 2, 14, 15, 16, 17, 19},
     [SENDER_MAKE] = {1, 2, 19},
     [SENDER_BEGIN] = {27, 21, 20},
@@ -28,11 +29,12 @@ const uint8_t listed_refusals[CALLS][12] = {
 const char *const call_names[CALLS] = {
     [CIPHER_MAKE] = "cipher_make",     [CIPHER_ENCIPHER] = "cipher_encipher",
     [PACK_OPEN] = "pack_open",         [PACK_SURVEY] = "pack_survey",
-    [PACK_LOOPS] = "pack_loops",       [PACK_SEAL] = "pack_seal",
-    [SENDER_MAKE] = "sender_make",     [SENDER_BEGIN] = "sender_begin",
-    [SENDER_SEND] = "sender_send",     [SENDER_HEAR] = "sender_hear",
-    [SENDER_STATUS] = "sender_status", [RECEIVER_MAKE] = "receiver_make",
-    [RECEIVER_HEAR] = "receiver_hear", [RECEIVER_STATUS] = "receiver_status",
+    [PACK_LOOPS] = "pack_loops",       [PACK_LACKS] = "pack_lacks",
+    [PACK_SEAL] = "pack_seal",         [SENDER_MAKE] = "sender_make",
+    [SENDER_BEGIN] = "sender_begin",   [SENDER_SEND] = "sender_send",
+    [SENDER_HEAR] = "sender_hear",     [SENDER_STATUS] = "sender_status",
+    [RECEIVER_MAKE] = "receiver_make", [RECEIVER_HEAR] = "receiver_hear",
+    [RECEIVER_STATUS] = "receiver_status",
 };
 
 enum { GUARD = 16, MEMORY = 1 << 19, ORIGINAL = SIDES, NOT_PLANNED = -1 };

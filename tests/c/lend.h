@@ -17,6 +17,7 @@ enum call {
     PACK_OPEN,
     PACK_SURVEY,
     PACK_LOOPS,
+    PACK_LACKS,
     PACK_SEAL,
     SENDER_MAKE,
     SENDER_BEGIN,
@@ -29,10 +30,11 @@ enum call {
     CALLS
 };
 
-enum { NUMBERS = 256, LENT_MOST = 8 };
+enum { NUMBERS = 256, LENT_MOST = 8, REFUSALS_MOST = 16 };
 
-/* What the header lists for a call, in its order, and a 0 at the end. */
-extern const uint8_t listed_refusals[CALLS][12];
+/* What the header lists for a call, in its order, and a 0 at the end. A file that ends inside a section is listed once,
+ * for its body: behind what is wrong with the section's count, before what is wrong with the body. */
+extern const uint8_t listed_refusals[CALLS][REFUSALS_MOST];
 extern const char *const call_names[CALLS];
 
 /* What is lent: `count` elements of `size` bytes. NULL as content leaves what noise is there. */

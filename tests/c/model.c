@@ -13,7 +13,6 @@ struct model_rules model_rules = {
         [MODEL_BAD_KEY] = 1,
         [MODEL_BAD_VALUE] = 2,
         [MODEL_NOT_A_CIPHER] = 3,
-        [MODEL_CUT_SHORT] = 10,
         [MODEL_LONG_NAME] = 11,
         [MODEL_BAD_NAME] = 12,
         [MODEL_BAD_KEY_COUNT] = 13,
@@ -31,8 +30,13 @@ struct model_rules model_rules = {
         [MODEL_OTHER_SESSION] = 25,
         [MODEL_IMPOSSIBLE] = 26,
         [MODEL_OUT_OF_RULE] = 27,
+        [MODEL_CUT_IN_NAME] = 30,
+        [MODEL_CUT_IN_KEY] = 31,
+        [MODEL_CUT_IN_SAMPLES] = 32,
+        [MODEL_CUT_IN_LOOPS] = 33,
         [MODEL_OTHER_LENGTH] = 36,
     },
+    .lacks_besides = 0,
 };
 
 uint8_t model_no(enum model_reason reason) {

@@ -16,7 +16,6 @@ enum model_reason {
     MODEL_BAD_KEY,
     MODEL_BAD_VALUE,
     MODEL_NOT_A_CIPHER,
-    MODEL_CUT_SHORT,
     MODEL_LONG_NAME,
     MODEL_BAD_NAME,
     MODEL_BAD_KEY_COUNT,
@@ -34,6 +33,10 @@ enum model_reason {
     MODEL_OTHER_SESSION,
     MODEL_IMPOSSIBLE,
     MODEL_OUT_OF_RULE,
+    MODEL_CUT_IN_NAME,
+    MODEL_CUT_IN_KEY,
+    MODEL_CUT_IN_SAMPLES,
+    MODEL_CUT_IN_LOOPS,
     MODEL_OTHER_LENGTH,
     MODEL_REASONS
 };
@@ -49,6 +52,7 @@ enum { MODEL_A, MODEL_B, MODEL_C, MODEL_REGISTERS };
 struct model_rules {
     struct model_taps taps[MODEL_REGISTERS];
     uint8_t number[MODEL_REASONS];
+    size_t lacks_besides; /* what a cut file lacks besides the bytes of the count or body that it ends in */
 };
 
 extern struct model_rules model_rules;
@@ -99,6 +103,7 @@ uint8_t model_pack_survey(const uint8_t *file, size_t file_length,
 uint8_t model_pack_loops(const uint8_t *file, size_t file_length,
                          uint32_t *loops, size_t loop_room,
                          size_t *loop_numbers);
+size_t model_pack_lacks(const uint8_t *file, size_t file_length);
 uint8_t model_pack_seal(const uint8_t *name, size_t name_length,
                         const uint8_t *ring, size_t ring_length,
                         uint8_t key_number,

@@ -9,7 +9,9 @@ enum { RING_BYTES = 40, KEY_COUNT = 11, KEYS = 4, LOOP_BYTES = 8 };
 struct reader {
     const uint8_t *file;
     size_t length, at;
+    enum model_reason cut; /* what is wrong if the file ends inside the section that is being read */
     uint8_t refusal;
+    size_t lacks; /* if that is it, how much isn't there of what was to be taken */
 };
 
 static void refuse(struct reader *reader, enum model_reason reason) {
@@ -19,8 +21,10 @@ static void refuse(struct reader *reader, enum model_reason reason) {
 /* The next bytes of the file, or NULL if they aren't all there. */
 static const uint8_t *take(struct reader *reader, size_t count) {
     if (reader->refusal != 0) return NULL;
-    if (reader->length - reader->at < count) {
-        refuse(reader, MODEL_CUT_SHORT);
+    size_t left = reader->length - reader->at;
+    if (left < count) {
+        refuse(reader, reader->cut);
+        reader->lacks = count - left + model_rules.lacks_besides;
         return NULL;
     }
     reader->at += count;
@@ -41,6 +45,7 @@ static bool loop_allowed(uint32_t start, uint32_t end, size_t samples) {
 }
 
 static void read_name(struct reader *reader, size_t *length, size_t *at) {
+    reader->cut = MODEL_CUT_IN_NAME;
     *length = take_count(reader, 1);
     if (*length > SEMIVRAKH_NAME_MOST) refuse(reader, MODEL_LONG_NAME);
     *at = reader->at;
@@ -51,6 +56,7 @@ static void read_name(struct reader *reader, size_t *length, size_t *at) {
 }
 
 static void read_key(struct reader *reader, size_t *key_number, size_t *value_at) {
+    reader->cut = MODEL_CUT_IN_KEY;
     if (take_count(reader, 1) != KEY_COUNT) refuse(reader, MODEL_BAD_KEY_COUNT);
     const uint8_t *body = take(reader, KEY_COUNT);
     if (body == NULL) return;
@@ -60,12 +66,14 @@ static void read_key(struct reader *reader, size_t *key_number, size_t *value_at
 }
 
 static void read_samples(struct reader *reader, size_t *count, const uint8_t **enciphered) {
+    reader->cut = MODEL_CUT_IN_SAMPLES;
     *count = take_count(reader, 4);
     if (*count > SEMIVRAKH_SAMPLES_MOST) refuse(reader, MODEL_MANY_SAMPLES);
     *enciphered = take(reader, 2 * *count);
 }
 
 static void read_loops(struct reader *reader, size_t samples, size_t *count, size_t *at) {
+    reader->cut = MODEL_CUT_IN_LOOPS;
     *count = take_count(reader, 1);
     if (*count > SEMIVRAKH_LOOPS_MOST) refuse(reader, MODEL_MANY_LOOPS);
     *at = reader->at;
@@ -78,10 +86,12 @@ static void read_loops(struct reader *reader, size_t samples, size_t *count, siz
     }
 }
 
-/* What a file says of itself: the seven numbers by the header's index, and where its samples stand. */
+/* What a file says of itself: the seven numbers by the header's index, and where its samples stand. If it is cut, what
+ * it lacks. */
 struct pack {
     size_t numbers[SEMIVRAKH_OPENED_NUMBERS];
     const uint8_t *enciphered;
+    size_t lacks;
 };
 
 /* The whole file. Answers the first thing wrong with it, or 0. */
@@ -93,6 +103,7 @@ static uint8_t read_pack(struct pack *pack, const uint8_t *file, size_t file_len
     read_samples(&reader, samples, &pack->enciphered);
     read_loops(&reader, *samples, &numbers[SEMIVRAKH_OPENED_LOOPS], &numbers[SEMIVRAKH_OPENED_LOOPS_AT]);
     if (reader.at != file_length) refuse(&reader, MODEL_MORE_BYTES);
+    pack->lacks = reader.lacks;
     return reader.refusal;
 }
 
@@ -115,6 +126,12 @@ uint8_t model_pack_loops(const uint8_t *file, size_t file_length,
     for (size_t i = 0; i < count; i++) loops[i] = model_number_at(bytes + 4 * i, 4);
     *loop_numbers = count;
     return 0;
+}
+
+size_t model_pack_lacks(const uint8_t *file, size_t file_length) {
+    struct pack pack;
+    read_pack(&pack, file, file_length);
+    return pack.lacks;
 }
 
 static void start_cipher(struct model_trivium *trivium, const uint8_t *ring, size_t key_number, const uint8_t *value) {

@@ -16,6 +16,8 @@
 #include "semivrakh.h"
 
 enum { PAIR_AT = 10, HEAD_BYTES = 8, STREAM_MOST = 2000, NAME_BYTES = 5, KEY_NUMBER = 2 };
+/* Where the samples of a pack begin. */
+enum { BODY_AT = 1 + NAME_BYTES + 2 + SEMIVRAKH_VALUE_BYTES + 4 };
 
 /* What is secret in this round of calls. */
 static bool keys_hidden, sounds_hidden;
@@ -98,22 +100,43 @@ static void cipher(size_t length) {
 
 /* Of a file, all but its samples can be read by anybody. */
 static void look_at_file(const uint8_t *file, size_t length, size_t samples) {
-    size_t body = 1 + NAME_BYTES + 2 + SEMIVRAKH_VALUE_BYTES + 4, behind = body + 2 * samples;
-    public_bytes("semivrakh_pack_seal", file, body);
-    secret_bytes("semivrakh_pack_seal", file + body, 2 * samples);
+    size_t behind = BODY_AT + 2 * samples;
+    public_bytes("semivrakh_pack_seal", file, BODY_AT);
+    secret_bytes("semivrakh_pack_seal", file + BODY_AT, 2 * samples);
     public_bytes("semivrakh_pack_seal", file + behind, length - behind);
+}
+
+/* What a file lacks is public as well. */
+static void lacks(const uint8_t *file, size_t length, size_t expected) {
+    size_t lack = semivrakh_pack_lacks(file, length);
+    calls++;
+    look("semivrakh_pack_lacks");
+    public_bytes("semivrakh_pack_lacks", &lack, sizeof lack);
+    VALGRIND_MAKE_MEM_DEFINED(&lack, sizeof lack);
+    if (lack == expected) return;
+    faults++;
+    printf("FAILED: semivrakh_pack_lacks: %zu, and not %zu, is the answer\n", lack, expected);
+}
+
+/* The file cut in its samples: it is told where, by what stands before them. */
+static void survey_cut(const uint8_t *file, size_t samples) {
+    size_t answer[SEMIVRAKH_OPENED_NUMBERS], cut = BODY_AT + samples;
+    CALL(32, semivrakh_pack_survey, file, cut, answer, SEMIVRAKH_OPENED_NUMBERS);
+    lacks(file, cut, samples);
 }
 
 /* What a file says of itself is public, and no key is lent for it. */
 static void survey(const uint8_t *file, size_t length) {
     size_t answer[SEMIVRAKH_OPENED_NUMBERS], loop_numbers = 0;
     uint32_t loops[2 * SEMIVRAKH_LOOPS_MOST];
-    CALL(10, semivrakh_pack_survey, file, length - 1, answer, SEMIVRAKH_OPENED_NUMBERS);
+    CALL(33, semivrakh_pack_survey, file, length - 1, answer, SEMIVRAKH_OPENED_NUMBERS);
     CALL(0, semivrakh_pack_survey, file, length, answer, SEMIVRAKH_OPENED_NUMBERS);
     public_bytes("semivrakh_pack_survey", answer, sizeof answer);
-    CALL(10, semivrakh_pack_loops, file, length - 1, loops, 2 * SEMIVRAKH_LOOPS_MOST, &loop_numbers);
+    CALL(33, semivrakh_pack_loops, file, length - 1, loops, 2 * SEMIVRAKH_LOOPS_MOST, &loop_numbers);
     CALL(0, semivrakh_pack_loops, file, length, loops, 2 * SEMIVRAKH_LOOPS_MOST, &loop_numbers);
     public_bytes("semivrakh_pack_loops", loops, loop_numbers * sizeof *loops);
+    lacks(file, length - 1, 1);
+    lacks(file, length, 0);
 }
 
 static void pack(size_t samples) {
@@ -132,12 +155,13 @@ static void pack(size_t samples) {
          loops, loop_numbers, file, sizeof file, &length);
     public_bytes("semivrakh_pack_seal", &length, sizeof length);
     look_at_file(file, length, samples);
-    CALL(10, semivrakh_pack_open, file, length - 1, ring, sizeof ring, opened, samples, answer,
+    CALL(33, semivrakh_pack_open, file, length - 1, ring, sizeof ring, opened, samples, answer,
          SEMIVRAKH_OPENED_NUMBERS);
     CALL(0, semivrakh_pack_open, file, length, ring, sizeof ring, opened, samples, answer, SEMIVRAKH_OPENED_NUMBERS);
     public_bytes("semivrakh_pack_open", answer, sizeof answer);
     secret_bytes("semivrakh_pack_open", opened, 2 * samples);
     survey(file, length);
+    if (samples > 0) survey_cut(file, samples);
 }
 
 /* The link */
