@@ -110,7 +110,7 @@ uint8_t compare_pack_loops(struct run file, struct run loops) {
     return settle(PACK_LOOPS, numbers);
 }
 
-/* It refuses nothing and writes nothing. What it answers is put where other calls write, and so it is compared there. */
+/* It refuses nothing and writes nothing. What it answers is put where other calls write, so it is compared there. */
 size_t compare_pack_lacks(struct run file) {
     static size_t (*const lacks[SIDES])(const uint8_t *, size_t) = {semivrakh_pack_lacks, model_pack_lacks};
     lend_all((struct lending[]){to_read("file", file), number_to_write("what the file lacks")}, 2);

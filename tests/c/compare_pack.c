@@ -135,7 +135,7 @@ static size_t lack_of(struct run some_file, uint8_t no) {
     return lack;
 }
 
-/* The file, and bytes behind it. */
+/* The file with further bytes behind it. */
 static uint8_t longer[FILE_ROOM];
 static size_t longer_length;
 
@@ -192,7 +192,7 @@ static size_t piece_end(size_t piece) {
 /* The piece that a front of such a file ends in. */
 static size_t piece_cut(size_t front) {
     size_t piece = 0;
-    while (piece_end(piece) <= front) piece++;
+    while (piece < PIECES - 1 && piece_end(piece) <= front) piece++;
     return piece;
 }
 
@@ -204,10 +204,11 @@ static uint8_t number_of_cut(size_t piece) {
 static void look_at_cut(void) {
     if (!is_cut(surveyed.no)) return;
     size_t piece = piece_cut(file_length), lack = piece_end(piece) - file_length;
+    const char *name = piece_names[piece];
     bool in_body = piece % 2 == 1;
-    if (surveyed.no != number_of_cut(piece)) differ("a file ends in its %s, and the answer says not", piece_names[piece]);
-    if (surveyed.lack != lack) differ("a file lacks %zu bytes of its %s", lack, piece_names[piece]);
-    if (in_body && surveyed.ends_in_body_then) differ("a file has its whole %s, and is cut in it", piece_names[piece]);
+    if (surveyed.no != number_of_cut(piece)) differ("a file ends in its %s, and the answer is %d", name, surveyed.no);
+    if (surveyed.lack != lack) differ("a file lacks %zu bytes, and %zu of its %s", surveyed.lack, lack, name);
+    if (in_body && surveyed.ends_in_body_then) differ("a file that has its whole %s is refused as cut in it", name);
     times_cut[piece]++;
 }
 
