@@ -100,9 +100,13 @@ static void make_wav(struct wav *wav, const int16_t *samples, size_t sample_coun
     wav->length = whole;
 }
 
+/* Of a pack that ends inside a section the bytes are known that this section lacks; those of further sections aren't. */
 _Noreturn static void refused_pack(uint8_t no, const struct file *pack)
 {
-    refused(no, "%s has %zu bytes", pack->path, pack->length);
+    size_t missing = semivrakh_pack_lacks(pack->bytes, pack->length);
+    if (missing == 0) refused(no, "%s has %zu bytes", pack->path, pack->length);
+    refused(no, "%s has %zu bytes, and at least %zu more %s missing", pack->path, pack->length, missing,
+            missing == 1 ? "is" : "are");
 }
 
 int main(int words, char **word)
