@@ -100,7 +100,7 @@ static void make_wav(struct wav *wav, const int16_t *samples, size_t sample_coun
     wav->length = whole;
 }
 
-/* Of a pack that ends inside a section the bytes are known that this section lacks; those of further sections aren't. */
+/* Of a pack that ends inside a section it is known what that section lacks; how much would follow it is not. */
 _Noreturn static void refused_pack(uint8_t no, const struct file *pack)
 {
     size_t missing = semivrakh_pack_lacks(pack->bytes, pack->length);
