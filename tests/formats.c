@@ -1,7 +1,8 @@
 /*
  * Holds the worked examples of docs/FORMATS.md to the library. Standard input has a line for each block of the paper,
  * its label and its bytes in hex; keys, values and sounds are among them, so the library starts from what the paper
- * says. Files and frames are read back as the paper has them. Prints what differs, and how many cases there were.
+ * says. Files and frames are read back as the paper has them. Rows of two tables come as labels of no bytes. Prints
+ * what differs, and how many cases there were.
  */
 #include <stdbool.h>
 #include <stdio.h>
@@ -11,7 +12,7 @@
 #include "semivrakh.h"
 #include "semivrakh_words.h"
 
-enum { BLOCKS_MOST = 80, BYTES_MOST = 128, LINE_MOST = 512, SOUND_BYTES = 65 };
+enum { BLOCKS_MOST = 120, BYTES_MOST = 128, LINE_MOST = 512, SOUND_BYTES = 65 };
 
 struct block {
     char label[LINE_MOST];
@@ -131,6 +132,36 @@ static void pack_opened(const struct block *ring) {
     holds("pack file", memcmp(sound, samples, sizeof samples) == 0 && memcmp(answer, told, sizeof told) == 0);
 }
 
+/* The front of the pack file, of so many bytes, is refused as the paper's table says. */
+static void pack_cut_to(size_t length) {
+    const struct block *file = block("pack file");
+    size_t answer[SEMIVRAKH_OPENED_NUMBERS];
+    uint8_t no = semivrakh_pack_survey(file->bytes, length, answer, SEMIVRAKH_OPENED_NUMBERS);
+    char label[LINE_MOST];
+    snprintf(label, sizeof label, "cut to %zu, refused %d %zu", length, no, semivrakh_pack_lacks(file->bytes, length));
+    same(label, NULL, 0);
+}
+
+/* A block that is a front of the pack file. */
+static void front_shown(const char *label, const struct block *ring, uint8_t number, size_t missing) {
+    const struct block *file = block("pack file"), *front = block(label);
+    int16_t sound[SAMPLES];
+    size_t answer[SEMIVRAKH_OPENED_NUMBERS];
+    holds(label, front->length < file->length && memcmp(front->bytes, file->bytes, front->length) == 0);
+    holds(label, semivrakh_pack_open(front->bytes, front->length, ring->bytes, ring->length, sound, SAMPLES, answer,
+                                     SEMIVRAKH_OPENED_NUMBERS) == number);
+    holds(label, semivrakh_pack_lacks(front->bytes, front->length) == missing);
+}
+
+static void pack_cut(const struct block *ring) {
+    const struct block *file = block("pack file");
+    for (size_t length = 0; length < file->length; length++) pack_cut_to(length);
+    holds("pack file", semivrakh_pack_lacks(file->bytes, file->length) == 0);
+    front_shown("pack of no bytes", ring, SEMIVRAKH_CUT_IN_NAME, 1);
+    front_shown("pack cut in a count", ring, SEMIVRAKH_CUT_IN_SAMPLES, 3);
+    front_shown("pack cut in a body", ring, SEMIVRAKH_CUT_IN_SAMPLES, 4);
+}
+
 static void pack(void) {
     static const uint8_t zeros[WORD_BYTES];
     const struct block *ring = block("pack ring"), *value = block("pack value");
@@ -147,6 +178,7 @@ static void pack(void) {
     covered("pack enciphered", key, value, words, sizeof words);
     pack_sealed(ring, value);
     pack_opened(ring);
+    pack_cut(ring);
 }
 
 /* The link */
