@@ -60,6 +60,7 @@ fn print_numbers(numbers: &[u64]) {
 pub fn print_opened(lead: &[u8], opened: Opened) {
     let answer = [
         opened.refusal as u64,
+        opened.lacks as u64,
         opened.samples as u64,
         opened.key as u64,
         opened.loops as u64,
