@@ -247,7 +247,7 @@ uint8_t semivrakh_pack_loops(const uint8_t *file, size_t file_length,
  *
  *     uint8_t no = semivrakh_pack_survey(file, file_length, answer, SEMIVRAKH_OPENED_NUMBERS);
  *     size_t missing = semivrakh_pack_lacks(file, file_length);
- *     if (missing > 0) fprintf(stderr, "%s: %zu bytes are missing\n", semivrakh_words(no), missing);
+ *     if (missing > 0) fprintf(stderr, "refused %d: %zu bytes are missing there\n", no, missing);
  */
 size_t semivrakh_pack_lacks(const uint8_t *file, size_t file_length);
 

@@ -1,5 +1,5 @@
--- What a file that breaks off is told is what is missing: with more bytes behind it, it parts from the longer file where
--- it breaks off, and a front of an accepted file lacks only what it is asked to have.
+-- What a file that breaks off is told is what is missing: from the file with more bytes behind it, it parts where it
+-- breaks off; and a front of an accepted file lacks only what it is asked to have.
 use mathlib.Core.{Path._≡_, Path.refl, Path.sym, Path.ap, Path.ap₂, Path.subst, Path._∙_, Logic._≢_}
 use mathlib.Core.{Bool.Bool, Bool.true, Bool.false, Bool.cond, List.List, List.[], List._∷_, List._++_}
 use Prim.Native.Nat.{ℕ, _+_, _-_, _<_, _≤_}
@@ -11,38 +11,45 @@ use Rattle.octets.specs.Stream.{Cipher}
 use Rattle.refusals.specs.{Numbers.accepted, Numbers.cutInName, Outcome.Outcome}
 use Rattle.refusals.specs.Rules.{_endsBefore_, Fault, _says_, AllRight, first, lacking, verdictOf, verdict, reason}
 use Rattle.refusals.specs.declared.Verdict.{Verdict}
-use Rattle.refusals.proofs.Faults.{none-wrong, right-both, verdict-right, verdict-at, verdict-from, by-verdict}
+use Rattle.refusals.proofs.Faults.{none-wrong, right-both, first-append, verdict-right, verdict-at, verdict-from}
+use Rattle.refusals.proofs.Faults.{by-verdict}
 use Rattle.refusals.proofs.Settled.{by-settled, settled-done, settled-left}
 use Rattle.trivium.specs.Keystream.{trivium}
 use Rattle.pack.specs.Calls.{refusedOpening, lacksOf, surveying, openingPack}
-use Rattle.pack.specs.Cuts.{Section, sections, cutAt, CutNumber, Cuts}
+use Rattle.pack.specs.Cuts.{Section, sections, cutAt, CutNumber, CutsLack, Cuts}
 use Rattle.pack.specs.Faults.{faultsFromSamples, faultsFromKey, fileFaults, roomFaults, openFaults}
 use Rattle.pack.specs.Places.{sampleCount}
 use Rattle.pack.specs.declared.Opened.{Opened}
 use Rattle.pack.proofs.Growing.{asked, Parting, cut, other, files-grown, parting, only-asked}
 use Rattle.pack.proofs.AcceptedFiles.{loop-right}
-use Rattle.pack.proofs.Theorems.{file-right, survey-refusal}
+use Rattle.pack.proofs.Theorems.{file-numbered, file-right, survey-refusal}
 
 -- ---- 30 to 33 and the number of bytes go together, as they do in each rule
 
-abbrev Together : ℕ → ℕ → Type 0
-Together number lacks = (CutNumber number → 0 < lacks) × (0 < lacks → CutNumber number)
+-- a broken rule on where the file ends; none; and a broken rule on what was read
+ends : {number short place : ℕ} → CutNumber number → short < place → CutsLack number (place - short)
+ends among less = (λ _. omega arith, λ _. among)
 
--- a rule on what has to be there, and any other
-ends-early : {number short place : ℕ} → CutNumber number → short < place → Together number (place - short)
-ends-early among less = (λ _. omega arith, λ _. among)
+lacks-none : {number : ℕ} → number < cutInName → CutsLack number 0
+lacks-none below = (λ among. absurd (omega arith), λ some. absurd (omega arith))
 
-reads-on : {number : ℕ} → number < cutInName → Together number 0
-reads-on below = (λ among. absurd (omega arith), λ some. absurd (omega arith))
+reads : {number : ℕ} {A : Type 0} → number < cutInName → A → CutsLack number 0
+reads below broken = lacks-none below
 
-reads-bad : {number : ℕ} {A : Type 0} → number < cutInName → A → Together number 0
-reads-bad below broken = reads-on below
+-- one rule after the other
+infixr 5 _next_
+abbrev _next_ : {A B : Type 0} → A → B → A × B
+a next b = (a, b)
 
-together : (cipher : Cipher) (file : List ℕ) → Together (first (fileFaults cipher file)) (lacksOf cipher file)
+together : (cipher : Cipher) (file : List ℕ) → CutsLack (first (fileFaults cipher file)) (lacksOf cipher file)
 unfolding fileFaults faultsFromKey faultsFromSamples
 together cipher file =
-    by-verdict Together (reads-on (omega arith)) (fileFaults cipher file)
-    (ends-early (omega arith), (reads-bad (omega arith), (ends-early (omega arith), (reads-bad (omega arith), (ends-early (omega arith), (reads-bad (omega arith), (ends-early (omega arith), (reads-bad (omega arith), (ends-early (omega arith), (reads-bad (omega arith), (ends-early (omega arith), (ends-early (omega arith), (reads-bad (omega arith), (ends-early (omega arith), (reads-bad (omega arith), (reads-bad (omega arith), tt))))))))))))))))
+    by-verdict CutsLack (lacks-none (omega arith)) (fileFaults cipher file)
+    (ends (omega arith) next reads (omega arith) next ends (omega arith) next reads (omega arith)
+    next ends (omega arith) next reads (omega arith) next ends (omega arith) next reads (omega arith)
+    next ends (omega arith) next reads (omega arith) next ends (omega arith)
+    next ends (omega arith) next reads (omega arith) next ends (omega arith) next reads (omega arith)
+    next reads (omega arith) next tt)
 
 -- ---- the answer's two numbers are those of the file's rules
 
@@ -53,6 +60,11 @@ module _ (cipher : Cipher) where
       by-settled (fileFaults cipher file) _ _ (λ (o : Opened). o .lacks ≡ lacksOf cipher file)
       (λ e. ap (λ (v : Verdict). v .lacks) (verdict-right _ (file-right cipher file e))) (λ n e h. refl)
 
+  told-together : (file : List ℕ) → CutsLack (surveying cipher file .refusal) (surveying cipher file .lacks)
+  told-together file =
+      subst (λ (n : ℕ). CutsLack n (surveying cipher file .lacks)) (sym (survey-refusal cipher file))
+      (subst (CutsLack (first (fileFaults cipher file))) (sym (survey-lacks file)) (together cipher file))
+
   answered : (file : List ℕ) {number lacks : ℕ} → verdictOf number lacks ≡ verdict (fileFaults cipher file)
       → number ≢ accepted
       → surveying cipher file ≡ refusedOpening lacks number
@@ -60,6 +72,19 @@ module _ (cipher : Cipher) where
   answered file {number} {lacks} e refused =
       sym (settled-left _ _ _ number refused (ap (λ (v : Verdict). v .number) e))
       ∙ ap (λ (v : Verdict). refusedOpening (v .lacks) number) (sym e)
+
+  -- rules behind the file's own that say nothing of cuts change nothing of this
+  pub lacks-behind : (file : List ℕ) (faults : List Fault) → first faults < cutInName
+      → CutsLack (first (fileFaults cipher file ++ faults)) (surveying cipher file .lacks)
+  lacks-behind file faults below =
+      subst (λ (l : ℕ). CutsLack (first (fileFaults cipher file ++ faults)) l) (sym (survey-lacks file))
+      (subst (λ (n : ℕ). CutsLack n (lacksOf cipher file))
+      (sym (first-append (fileFaults cipher file) faults (file-numbered cipher file)))
+      (by-settled (fileFaults cipher file) (first faults) (λ n. n) (λ (n : ℕ). CutsLack n (lacksOf cipher file))
+      (λ e.
+      let none = ap (λ (v : Verdict). v .lacks) (verdict-right _ (file-right cipher file e)) in
+      subst (CutsLack (first faults)) none (lacks-none below))
+      (λ n e h. subst (λ (m : ℕ). CutsLack m (lacksOf cipher file)) e (together cipher file))))
 
   opened-alike : (ring : List (List ℕ)) (file : List ℕ) (sound : List ℤ)
       → openingPack cipher ring file sound .answer .lacks ≡ surveying cipher file .lacks
@@ -79,43 +104,36 @@ module _ (cipher : Cipher) where
     long : length file + length more ≡ length (file ++ more)
     long = sym (length-append file more)
 
-    -- where the two part
-    parted : Parting (32872 + cipher .valueBytes) (length file) (length (file ++ more)) (fileFaults cipher file)
+    abbrev Parted : Type 0
+    Parted =
+        Parting (32872 + cipher .valueBytes) (length file) (length (file ++ more)) (fileFaults cipher file)
         (fileFaults cipher (file ++ more))
+
+    parted : Parted
     parted = parting (omega (arith, long)) (files-grown file more cipher (32872 + cipher .valueBytes) (omega arith))
 
-    fewer : length more < surveying cipher file .lacks
+    -- what the shorter file is told
+    file-told : {number lacks : ℕ} → verdictOf number lacks ≡ verdict (fileFaults cipher file)
+        → (number ≡ surveying cipher file .refusal) × (lacks ≡ surveying cipher file .lacks)
+    file-told e = (
+      ap (λ (v : Verdict). v .number) e ∙ sym (survey-refusal cipher file),
+      ap (λ (v : Verdict). v .lacks) e ∙ sym (survey-lacks file),
+    )
+
+    fewer : length more < surveying cipher file .lacks → Parted
         → surveying cipher (file ++ more)
         ≡ refusedOpening (surveying cipher file .lacks - length more) (surveying cipher file .refusal)
-    fewer few = go parted
-      where
-        go : Parting (32872 + cipher .valueBytes) (length file) (length (file ++ more)) (fileFaults cipher file)
-            (fileFaults cipher (file ++ more))
-            → surveying cipher (file ++ more)
-            ≡ refusedOpening (surveying cipher file .lacks - length more) (surveying cipher file .refusal)
-        go (cut {n} {p} less most one both later) =
-            let number : n ≡ surveying cipher file .refusal =
-            ap (λ (v : Verdict). v .number) one ∙ sym (survey-refusal cipher file) in
-            let lacks : p - length file ≡ surveying cipher file .lacks =
-            ap (λ (v : Verdict). v .lacks) one ∙ sym (survey-lacks file) in
-            let among = together cipher file .1 (omega (arith, survey-lacks file)) in
-            answered (file ++ more) (both (omega (arith, long)))
-            (omega (arith, among, survey-refusal cipher file))
-            ∙ ap₂ refusedOpening (omega (arith, long)) number
-        go (other none same) = absurd (omega (arith, survey-lacks file))
+    fewer few (cut less most one both later) =
+        let told = file-told one in
+        let among = told-together file .1 (omega arith) in
+        answered (file ++ more) (both (omega (arith, long, told))) (omega (arith, told, among))
+        ∙ ap₂ refusedOpening (omega (arith, long, told)) (told .0)
+    fewer few (other none same) = absurd (omega (arith, survey-lacks file))
 
-    enough : 0 < surveying cipher file .lacks → surveying cipher file .lacks ≤ length more
+    enough : 0 < surveying cipher file .lacks → surveying cipher file .lacks ≤ length more → Parted
         → reason (fileFaults cipher file) < reason (fileFaults cipher (file ++ more))
-    enough some all = go parted
-      where
-        go : Parting (32872 + cipher .valueBytes) (length file) (length (file ++ more)) (fileFaults cipher file)
-            (fileFaults cipher (file ++ more))
-            → reason (fileFaults cipher file) < reason (fileFaults cipher (file ++ more))
-        go (cut {n} {p} less most one both later) =
-            let lacks : p - length file ≡ surveying cipher file .lacks =
-            ap (λ (v : Verdict). v .lacks) one ∙ sym (survey-lacks file) in
-            later (omega (arith, long))
-        go (other none same) = absurd (omega (arith, survey-lacks file))
+    enough some all (cut less most one both later) = later (omega (arith, long, file-told one))
+    enough some all (other none same) = absurd (omega (arith, survey-lacks file))
 
 -- ---- a front of an accepted file
 
@@ -155,7 +173,7 @@ cut-among n s more here later = go (ltb n (s .ended)) refl
     go true b = here
     go false b = later (ltb-false n (s .ended) b)
 
-module _ (cipher : Cipher) (file : List ℕ) (n : ℕ) (right : AllRight (fileFaults cipher file)) (inside : n < length file)
+module _ (cipher : Cipher) (file : List ℕ) (n : ℕ) (right : AllRight (fileFaults cipher file)) (less : n < length file)
   where
     cut-verdict : verdict (fileFaults cipher (take n file)) ≡ cutAt n (sections cipher file)
     cut-verdict =
@@ -178,15 +196,14 @@ module _ (cipher : Cipher) (file : List ℕ) (n : ℕ) (right : AllRight (fileFa
         (λ _. cut-among n _ _ (omega arith)
         (λ behind. absurd (omega (arith, loop-right cipher file right))))))
 
--- ---- together
+-- ---- all of it
 
 pub cuts : (cipher : Cipher) → Cuts cipher
 cuts cipher =
     record {
-      cutLacks = λ file among. omega (arith, survey-lacks cipher file, together cipher file .0 (subst CutNumber (survey-refusal cipher file) among));
-      lacksCut = λ file some. subst CutNumber (sym (survey-refusal cipher file)) (together cipher file .1 (omega (arith, survey-lacks cipher file)));
-      fewer = fewer cipher;
-      enough = enough cipher;
+      lacks = told-together cipher;
+      fewer = λ file more few. fewer cipher file more few (parted cipher file more);
+      enough = λ file more some all. enough cipher file more some all (parted cipher file more);
       cut =
           λ file n e inside.
           let right = file-right cipher file (sym (survey-refusal cipher file) ∙ e) in

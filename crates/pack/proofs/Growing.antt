@@ -64,7 +64,8 @@ module _ (file more : List ℕ) where
   same-byte i h = sym (List·getD-append file more 0 i h)
 
   loops-grown : (bound at samples : ℕ) → at + 65 ≤ bound
-      → Grown bound (length file) (length whole) (loopSectionFaults file at samples) (loopSectionFaults whole at samples)
+      → Grown bound (length file) (length whole) (loopSectionFaults file at samples)
+      (loopSectionFaults whole at samples)
       (asked (length file) (loopsFrom whole at))
   loops-grown bound at samples far =
       let n : ℕ = byteAt file at in
@@ -193,11 +194,12 @@ module _ {bound short long : ℕ} (more : short ≤ long) where
       go : (b : Bool) → ltb p short ≡ b
           → Parting bound short long ((short over p says n) ∷ []) ((long over q says n) ∷ [])
       go true b =
-          let here : verdictOf n 0 ≡ verdict ((short over p says n) ∷ []) = refused (short over p says n) [] refl b in
-          let on : verdictOf n 0 ≡ verdict ((long over q says n) ∷ []) = verdict-at 0 _ (omega (arith, ltb-true p short b)) refl refl in
-          other (lacks-none _ here) (λ _. sym here ∙ on)
+          let on : p < short = ltb-true p short b in
+          let here : verdictOf n 0 ≡ verdict ((short over p says n) ∷ []) = verdict-at 0 _ on refl refl in
+          other (lacks-none _ here) (λ _. sym here ∙ verdict-at 0 _ (omega arith) refl refl)
       go false b =
-          other (lacks-none _ (verdict-right _ (ltb-false p short b, tt))) (λ h. absurd (omega (arith, ltb-false p short b)))
+          let there : short ≤ p = ltb-false p short b in
+          other (lacks-none _ (verdict-right _ (there, tt))) (λ beyond. absurd (omega arith))
 
   -- if nothing is wrong with the long file, the short one is asked for what is missing, and for nothing else
   pub only-asked : {xs ys zs : List Fault} → Grown bound short long xs ys zs → AllRight ys → verdict xs ≡ verdict zs

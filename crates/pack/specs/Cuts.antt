@@ -41,16 +41,20 @@ cutAt n (s ∷ more) =
 abbrev pub CutNumber : ℕ → Type 0
 CutNumber n = (cutInName ≤ n) × (n ≤ cutInLoops)
 
+-- bytes are missing with these, and with no other number
+abbrev pub CutsLack : ℕ → ℕ → Type 0
+CutsLack number lacks = (CutNumber number → 0 < lacks) × (0 < lacks → CutNumber number)
+
 pub record Cuts (cipher : Cipher) : Type 0 where
-  -- 1. some bytes are missing with 30 to 33, and with no other number
-  pub cutLacks : (file : List ℕ) → CutNumber (surveying cipher file .refusal) → 0 < surveying cipher file .lacks
-  pub lacksCut : (file : List ℕ) → 0 < surveying cipher file .lacks → CutNumber (surveying cipher file .refusal)
-  -- 2. with fewer bytes behind a file than it lacks, whatever they are, it is refused with the same number and lacks that
+  -- 1. a file lacks some bytes if it is refused with 30 to 33, and none otherwise
+  pub lacks : (file : List ℕ) → CutsLack (surveying cipher file .refusal) (surveying cipher file .lacks)
+  -- 2. with fewer bytes behind it than it lacks, whatever they are, it is refused with the same number and lacks that
   -- many fewer
   pub fewer : (file more : List ℕ) → let o = surveying cipher file in
       length more < o .lacks
       → surveying cipher (file ++ more) ≡ refusedOpening (o .lacks - length more) (o .refusal)
-  -- 3. with as many as it lacks, or more, that is no longer the reason: what refuses it then, if anything, is a later rule
+  -- 3. with as many as it lacks, or more, it is not refused for that reason: what refuses it then, if anything, is a
+  -- later rule
   pub enough : (file more : List ℕ) → let o = surveying cipher file in
       0 < o .lacks
       → o .lacks ≤ length more

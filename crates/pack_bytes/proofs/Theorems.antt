@@ -1,19 +1,24 @@
 -- A refused call leaves all that it was lent as it was. Survey and loops tell what opening tells: all are settled by
 -- the same rules of the file.
-use mathlib.Core.{Path._≡_, Path.refl, Path.sym, Path.ap, Path._∙_, List.List, List.[], List._∷_}
-use Prim.Native.Nat.{ℕ}
+use mathlib.Core.{Path._≡_, Path.refl, Path.sym, Path.ap, Path.subst, Path._∙_}
+use mathlib.Core.List.{List, [], _∷_, _++_, append-assoc}
+use Prim.Native.Nat.{ℕ, _<_}
 use native.Mathlib.Omega.{arith}
 use lib.{IntN.ℤ, ListN.length, ListN.take}
 use Rattle.octets.specs.{Buffers.placed, Rows.numbersAt}
 use Rattle.octets.proofs.{Buffers.take-placed, Rows.many-read}
-use Rattle.refusals.specs.{Numbers.accepted, Numbers.noRoom, Outcome.outcome, Rules._under_, Rules._says_, Rules.Leaves}
-use Rattle.refusals.proofs.Faults.{none-wrong, right-both, right-after}
+use Rattle.refusals.specs.{Numbers.accepted, Numbers.badKey, Numbers.noRoom, Numbers.cutInName, Outcome.Outcome}
+use Rattle.refusals.specs.{Outcome.outcome, Rules._under_, Rules._unlike_, Rules.Fault, Rules._says_, Rules.first}
+use Rattle.refusals.specs.Rules.{Leaves}
+use Rattle.refusals.proofs.Faults.{none-wrong, right-both, right-after, rule-passes, by-verdict}
 use Rattle.refusals.proofs.Settled.{done-if, settled-number, settled-leaves, answer-done}
 use Rattle.trivium.specs.Keystream.{trivium}
 use Rattle.pack.specs.Faults.{faultsFromSamples, faultsFromKey, fileFaults, roomFaults, openFaults}
-use Rattle.pack.specs.{Layout.Parts, Layout.fours, Places.sampleCount, Places.loopsPlace, Places.partsOf, Ring.ringOf}
+use Rattle.pack.specs.{Calls.surveying, Cuts.CutsLack, Layout.Parts, Layout.fours, Places.sampleCount}
+use Rattle.pack.specs.{Places.loopsPlace, Places.partsOf, Ring.ringBytes, Ring.ringOf}
+use Rattle.pack.proofs.Cuts.{lacks-behind}
 use Rattle.record_bytes.specs.Written.{Written, wrote}
-use Rattle.survey_bytes.specs.Calls.{numbersRoom, packSurvey, loopNumbers, packLoopsFaults, packLoops}
+use Rattle.survey_bytes.specs.Calls.{numbersRoom, packSurvey, packLacks, loopNumbers, packLoopsFaults, packLoops}
 use Rattle.survey_bytes.proofs.Theorems.{loops-of-parts}
 use Rattle.pack_bytes.specs.{Calls.PackOpened, Calls.packOpened, Calls.packOpenFaults, Calls.packOpen}
 use Rattle.pack_bytes.specs.{Calls.packSeal, Told.ToldAlike}
@@ -62,5 +67,38 @@ loops-told file ring run before z =
     ∙ take-placed run numbers (omega arith)
     ∙ loops-of-parts (ringOf ring) file
 
+-- a room's own number is below those for a cut
+room-below : (needed room : ℕ) → first (roomFaults needed room) < cutInName
+room-below needed room =
+    by-verdict (λ (n l : ℕ). n < cutInName) (omega arith) (roomFaults needed room) (λ _. omega arith, tt)
+
+cut-survey : (file answer : List ℕ) → CutsLack (packSurvey file answer .answer) (packLacks file)
+unfolding packSurvey packLacks
+cut-survey file answer =
+    subst (λ (n : ℕ). CutsLack n (surveying trivium file .lacks))
+    (sym (settled-number _ _ _ (λ (o : Outcome ℕ ℕ). o .answer) refl (λ n. refl)))
+    (lacks-behind trivium file (roomFaults numbersRoom (length answer)) (room-below numbersRoom (length answer)))
+
+cut-open : (file ring : List ℕ) (samples : List ℤ) (answer : List ℕ) → length ring ≡ ringBytes
+    → CutsLack (packOpen file ring samples answer .number) (packLacks file)
+unfolding packOpen packLacks openFaults
+cut-open file ring samples answer right =
+    let some : List Fault = roomFaults (sampleCount trivium file) (length samples) in
+    let rest : List Fault = (length answer under numbersRoom says noRoom) ∷ [] in
+    let below : first (some ++ rest) < cutInName =
+    by-verdict (λ (n l : ℕ). n < cutInName) (omega arith) (some ++ rest) (λ _. omega arith, (λ _. omega arith, tt)) in
+    subst (λ (n : ℕ). CutsLack n (surveying trivium file .lacks))
+    (sym
+    (settled-number _ _ _ (λ (o : PackOpened). o .number) refl (λ n. refl)
+    ∙ sym (rule-passes (length ring unlike ringBytes says badKey) _ right)
+    ∙ ap first (append-assoc (fileFaults trivium file) some rest)))
+    (lacks-behind trivium file (some ++ rest) below)
+
 pub told-alike : (file ring : List ℕ) → ToldAlike file ring
-told-alike file ring = record { numbers = survey-told file ring; loops = loops-told file ring }
+told-alike file ring =
+    record {
+      numbers = survey-told file ring;
+      loops = loops-told file ring;
+      cut = cut-survey file;
+      cutOpening = cut-open file ring;
+    }

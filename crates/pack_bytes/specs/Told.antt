@@ -1,11 +1,11 @@
 -- What survey and loops tell of a file is what opening tells of it.
 use Prim.Native.Nat.{ℕ}
 use mathlib.Core.{List.List, Path._≡_}
-use lib.{IntN.ℤ, ListN.take}
+use lib.{IntN.ℤ, ListN.length, ListN.take}
 use Rattle.refusals.specs.{Numbers.accepted, Outcome.outcome}
 use Rattle.trivium.specs.Keystream.{trivium}
-use Rattle.pack.specs.{Places.partsOf, Ring.ringOf}
-use Rattle.survey_bytes.specs.Calls.{packSurvey, packLoops}
+use Rattle.pack.specs.{Cuts.CutsLack, Places.partsOf, Ring.ringBytes, Ring.ringOf}
+use Rattle.survey_bytes.specs.Calls.{packSurvey, packLacks, packLoops}
 use Rattle.pack_bytes.specs.Calls.{packOpen}
 
 pub record ToldAlike (file ring : List ℕ) : Type 0 where
@@ -15,3 +15,7 @@ pub record ToldAlike (file ring : List ℕ) : Type 0 where
   -- and its loops are those of its parts, as sealing takes them
   pub loops : (run : List ℕ) (before : ℕ) → let told = packLoops file run before in
       told .number ≡ accepted → take (told .count) (told .buffer) ≡ partsOf trivium (ringOf ring) file .loops
+  -- a file lacks bytes where it is surveyed with 30 to 33, or opened so under a ring of 40 bytes, and nowhere else
+  pub cut : (answer : List ℕ) → CutsLack (packSurvey file answer .answer) (packLacks file)
+  pub cutOpening : (samples : List ℤ) (answer : List ℕ) → length ring ≡ ringBytes
+      → CutsLack (packOpen file ring samples answer .number) (packLacks file)

@@ -5,8 +5,8 @@ use lib.ListN.{length}
 use Rattle.octets.specs.{Buffers.placed, Rows.numbersAt}
 use Rattle.refusals.specs.{Numbers.accepted, Outcome.Outcome, Outcome.outcome, Rules.Fault, Rules.settled}
 use Rattle.trivium.specs.Keystream.{trivium}
-use Rattle.pack.specs.{Calls.acceptedOpening, Calls.surveying, Faults.fileFaults, Faults.roomFaults, Layout.fours, Places.loopCount}
-use Rattle.pack.specs.{Places.loopsPlace, declared.Opened.Opened}
+use Rattle.pack.specs.{Calls.acceptedOpening, Calls.surveying, Faults.fileFaults, Faults.roomFaults, Layout.fours}
+use Rattle.pack.specs.{Places.loopCount, Places.loopsPlace, declared.Opened.Opened}
 use Rattle.record_bytes.specs.Written.{Written, wrote}
 
 -- ---- the answer's numbers, in the header's order

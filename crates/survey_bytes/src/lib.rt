@@ -1,5 +1,5 @@
-// What a pack file says of itself, for callers in other languages, who lend runs for it. A refused call writes nothing of
-// all that it was lent.
+// What a pack file says of itself, for callers in other languages, who lend runs for it. A refused call writes nothing
+// of all that it was lent.
 use pack::Opened;
 ghost use mathlib.Core.Path.{_≡_};
 ghost use mathlib.Core.List.{List, _++_};

@@ -20,7 +20,7 @@ use Rattle.pack.specs.Faults.{faultsFromKey, fileFaults, openFaults}
 use Rattle.pack.specs.Places.{keyNumber, valuePlace, sampleCount, bodyPlace, partsOf}
 use Rattle.pack.proofs.AcceptedFiles.{key-right, samples-counted}
 use Rattle.pack.proofs.Theorems.{file-right, file-numbered, ring-streams, survey-refusal, surveying-leaves}
-use Rattle.opener.proofs.open.Statement.{statement}
+use Rattle.opener.proofs.{Lacking.lacking-so, open.Statement.statement}
 use Rattle.opener.proofs.open.Tie as tie
 
 -- ---- a survey that isn't refused
@@ -72,7 +72,8 @@ returns c =
     let told : o .refusal ≡ first (fileFaults trivium f) =
     ap (λ (a : Opened). a .refusal) (c .before .survey .ensures) ∙ survey-refusal trivium f in
     let none : o ≡ refusedOpening (lacksOf trivium f) (o .refusal) =
-    subst (Leaves (λ a. a .refusal) (refusedOpening (lacksOf trivium f))) (sym (c .before .survey .ensures)) (surveying-leaves trivium f)
+    subst (Leaves (λ a. a .refusal) (refusedOpening (lacksOf trivium f))) (sym (c .before .survey .ensures))
+    (surveying-leaves trivium f)
     (c .if1 .taken) in
     ap (λ (a : Opened). outcome a (p .output .now)) none
     ∙ settled-left _ _ (λ n. outcome (refusedOpening (lacksOf trivium f) n) (p .output .now)) _ (c .if1 .taken)
@@ -87,8 +88,8 @@ returns-2 c =
     let p = e .before .before .before .args in
     let f = p .file .now in
     let none : 0 ≡ lacksOf trivium f = ap (λ (v : Verdict). v .lacks) (verdict-right _ (right e)) in
-    ap (λ (o : Opened). outcome o (p .output .now)) (c .refused-opening .ensures)
-    ∙ ap (λ (l : ℕ). outcome (refusedOpening l noRoom) (p .output .now)) none
+    ap (λ (o : Opened). outcome o (p .output .now))
+    (lacking-so _ _ _ (c .refused-opening .ensures) (lacksOf trivium f) (omega arith))
     ∙ settled-left _ _ (λ n. outcome (refusedOpening (lacksOf trivium f) n) (p .output .now)) 19 (omega arith)
     (refused-at 0 ((sampleCount trivium f over length (p .output .now) says noRoom) ∷ [])
     (omega (arith, ap (λ (o : Opened). o .samples) (answered e)))

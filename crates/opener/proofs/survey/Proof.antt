@@ -9,11 +9,11 @@ use Rattle.octets.proofs.Numbers.{number-lent}
 use Rattle.refusals.specs.declared.Verdict.{Verdict}
 use Rattle.refusals.proofs.Settled.{settled-done, settled-left}
 use Rattle.trivium.specs.Keystream.{trivium}
-use Rattle.pack.specs.Calls.{refusedOpening, surveying}
+use Rattle.pack.specs.Calls.{lacksOf, surveying}
 use Rattle.pack.specs.Faults.{faultsFromSamples, faultsFromKey, fileFaults}
 use Rattle.pack.specs.Places.{nameCount, keyPlace, valuePlace, samplePlace, sampleCount, bodyPlace, loopPlace}
 use Rattle.pack.proofs.Theorems.{file-right}
-use Rattle.opener.proofs.survey.Statement.{statement}
+use Rattle.opener.proofs.{Lacking.lacking-so, survey.Statement.statement}
 use Rattle.opener.proofs.survey.Tie as tie
 
 -- what a file that passed has shown
@@ -24,15 +24,17 @@ known : (c : tie.Else1)
 unfolding fileFaults faultsFromKey faultsFromSamples
 known c =
     let f = c .before .before .before .args .file .now in
-    let right = file-right trivium f (sym (ap (λ (v : Verdict). v .number) (c .before .file-fault .ensures)) ∙ c .if1 .left) in
+    let found = ap (λ (v : Verdict). v .number) (c .before .file-fault .ensures) in
+    let right = file-right trivium f (sym found ∙ c .if1 .left) in
     omega arith
 
 returns : tie.Need-returns
 unfolding surveying
 returns c =
+    let f = c .before .before .before .before .args .file .now in
     let found = c .before .before .file-fault .ensures in
-    c .refused-opening .ensures
-    ∙ ap (λ (v : Verdict). refusedOpening (v .lacks) (c .before .before .file-fault .result .number)) found
+    lacking-so _ _ _ (c .refused-opening .ensures) (lacksOf trivium f)
+    (omega (arith, ap (λ (v : Verdict). v .lacks) found))
     ∙ settled-left _ _ _ _ (c .before .if1 .taken) (ap (λ (v : Verdict). v .number) found)
 
 cast-name-length : tie.Need-cast-name-length

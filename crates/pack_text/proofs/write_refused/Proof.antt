@@ -16,7 +16,7 @@ returns c =
     let w = c .before .before in
     let p = w .before .before .before .before .before .args in
     w .write-line .ensures ∙ text-first (p .d .now) (line refusedWord (decimal (p .number)))
-    ∙ ap (λ (t : List ℕ). writing t (p .d .now)) (refused-plain (p .lacks) (p .number) (w .before .before .before .if1 .taken))
+    ∙ ap (λ (t : List ℕ). writing t (p .d .now)) (refused-plain (p .lacks) (p .number) (omega arith))
 
 -- as far as the first number
 numbered : (c : tie.After-write-decimal)
@@ -58,7 +58,7 @@ returns-2 c =
       length-decimal (p .lacks),
     )) (numbered first) (w .write-line2 .ensures)
     ∙ ap (λ (t : List ℕ). writing t (p .d .now))
-    (refused-lacking (p .lacks) (p .number) (first .before .before .before .before .before .before .before .if1 .left))
+    (refused-lacking (p .lacks) (p .number) (omega arith))
 
 pub write-refused-spec : {M : Type 1} → statement M
 write-refused-spec =
