@@ -38,6 +38,13 @@ text-ends d xs p =
 pub text-first : (d xs : List ℕ) → outcome (0 + length xs) (put d 0 xs) ≡ writing xs d
 text-first d xs = ap (λ (n : ℕ). outcome n (put d 0 xs)) (zero-add (length xs))
 
+-- a number that was written is the one meant, shown by arithmetic
+pub number-so : (d : List ℕ) (at x y : ℕ) {end : ℕ} {e : List ℕ}
+    → outcome end e ≡ outcome (at + length (decimal x)) (put d at (decimal x))
+    → x ≡ y
+    → outcome end e ≡ outcome (at + length (decimal y)) (put d at (decimal y))
+number-so d at x y p same = p ∙ ap (λ (n : ℕ). outcome (at + length (decimal n)) (put d at (decimal n))) same
+
 -- a run behind a text
 pub text-on : (d xs ys : List ℕ) {e₁ e₂ : List ℕ} {end next : ℕ} → length (xs ++ ys) ≤ length d
     → outcome end e₁ ≡ writing xs d

@@ -7,7 +7,8 @@ use lib.ListN.{length, length-append}
 use Rattle.refusals.specs.Outcome.{Outcome, outcome}
 use Rattle.pack_text.specs.Text.{decimal, line, refusedWord, writing}
 use Rattle.pack_text.proofs.Decimals.{length-decimal}
-use Rattle.pack_text.proofs.Lines.{length-line, text-first, text-ends, text-on, refused-plain, refused-lacking}
+use Rattle.pack_text.proofs.Lines.{length-line, text-first, text-ends, number-so, text-on, refused-plain}
+use Rattle.pack_text.proofs.Lines.{refused-lacking}
 use Rattle.pack_text.proofs.write_refused.Statement.{statement}
 use Rattle.pack_text.proofs.write_refused.Tie as tie
 
@@ -28,7 +29,8 @@ numbered c =
     let p = word .before .before .before .before .before .args in
     text-on (p .d .now) refusedWord (decimal (p .number))
     (omega (arith, length-append refusedWord (decimal (p .number)), length-decimal (p .number)))
-    (ap (λ (e : List ℕ). outcome 8 e) (word .copy .ensures)) (c .write-decimal .ensures)
+    (ap (λ (e : List ℕ). outcome 8 e) (word .copy .ensures))
+    (number-so _ _ _ (p .number) (c .write-decimal .ensures) (omega arith))
 
 write-line-requires-2 : tie.Need-write-line-requires-2
 write-line-requires-2 c κs =
