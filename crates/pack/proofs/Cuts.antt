@@ -8,12 +8,12 @@ use borrow.Author.Tests.{ltb-true, ltb-false, lt-ltb, le-ltb}
 use lib.{Dec.ltb, IntN.ℤ, Seq.length-take-le}
 use lib.ListN.{length, take, drop, length-append, take-append-drop}
 use Rattle.octets.specs.Stream.{Cipher}
-use Rattle.refusals.specs.{Numbers.accepted, Numbers.cutInName, Outcome.Outcome}
+use Rattle.refusals.specs.{Numbers.accepted, Numbers.cutInName, Outcome.Outcome, Outcome.outcome}
 use Rattle.refusals.specs.Rules.{_endsBefore_, Fault, _says_, AllRight, first, lacking, verdictOf, verdict, reason}
 use Rattle.refusals.specs.declared.Verdict.{Verdict}
 use Rattle.refusals.proofs.Faults.{none-wrong, right-both, first-append, verdict-right, verdict-at, verdict-from}
 use Rattle.refusals.proofs.Faults.{by-verdict}
-use Rattle.refusals.proofs.Settled.{by-settled, settled-done, settled-left}
+use Rattle.refusals.proofs.Settled.{by-settled, settled-left, first-here}
 use Rattle.trivium.specs.Keystream.{trivium}
 use Rattle.pack.specs.Calls.{refusedOpening, lacksOf, surveying, openingPack}
 use Rattle.pack.specs.Cuts.{Section, sections, cutAt, CutNumber, CutsLack, Cuts}
@@ -85,6 +85,20 @@ module _ (cipher : Cipher) where
       let none = ap (λ (v : Verdict). v .lacks) (verdict-right _ (file-right cipher file e)) in
       subst (CutsLack (first faults)) none (lacks-none below))
       (λ n e h. subst (λ (m : ℕ). CutsLack m (lacksOf cipher file)) e (together cipher file))))
+
+  -- a broken rule of the file ends a survey and an opening alike
+  opened-refused : (ring : List (List ℕ)) (file : List ℕ) (sound : List ℤ) → surveying cipher file .refusal ≢ accepted
+      → openingPack cipher ring file sound ≡ outcome (surveying cipher file) sound
+  unfolding surveying openingPack openFaults
+  opened-refused ring file sound h =
+      let n : ℕ = first (fileFaults cipher file) in
+      let refused : n ≢ accepted = λ z. h (survey-refusal cipher file ∙ z) in
+      let left : ℕ → Outcome Opened ℤ = λ k. outcome (refusedOpening (lacksOf cipher file) k) sound in
+      sym
+      (settled-left (openFaults cipher file (length sound)) _ left n refused
+      (first-here (fileFaults cipher file) _ (file-numbered cipher file) n refused refl))
+      ∙ ap (λ (o : Opened). outcome o sound)
+      (settled-left (fileFaults cipher file) _ (refusedOpening (lacksOf cipher file)) n refused refl)
 
   opened-alike : (ring : List (List ℕ)) (file : List ℕ) (sound : List ℤ)
       → openingPack cipher ring file sound .answer .lacks ≡ surveying cipher file .lacks
@@ -209,7 +223,8 @@ cuts cipher =
           let right = file-right cipher file (sym (survey-refusal cipher file) ∙ e) in
           let among = cut-number cipher file n right inside in
           (among, answered cipher (take n file) (sym (cut-verdict cipher file n right inside)) (omega (arith, among)));
-      opened = opened-alike cipher;
+      opened = opened-refused cipher;
+      openedLacks = opened-alike cipher;
     }
 
 pub cuts-trivium : Cuts trivium

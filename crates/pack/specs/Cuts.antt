@@ -1,11 +1,10 @@
 -- What a file that breaks off is told: in which section, and how many bytes are missing there.
 use Prim.Native.Nat.{ℕ, _+_, _-_, _<_, _≤_}
-use mathlib.Core.{Bool.cond, List.List, List.[], List._∷_, List._++_, Path._≡_}
+use mathlib.Core.{Bool.cond, List.List, List.[], List._∷_, List._++_, Logic._≢_, Path._≡_}
 use lib.{Dec.ltb, IntN.ℤ, ListN.length, ListN.take}
 use Rattle.octets.specs.Stream.{Cipher}
 use Rattle.refusals.specs.Numbers.{accepted, cutInName, cutInKey, cutInSamples, cutInLoops}
-use Rattle.refusals.specs.Rules.{verdictOf, reason}
-use Rattle.refusals.specs.declared.Verdict.{Verdict}
+use Rattle.refusals.specs.{Outcome.outcome, Rules.verdictOf, Rules.reason, declared.Verdict.Verdict}
 use Rattle.pack.specs.Calls.{refusedOpening, surveying, openingPack}
 use Rattle.pack.specs.Faults.{fileFaults}
 use Rattle.pack.specs.Places.{keyPlace, samplePlace, bodyPlace, loopPlace, loopsPlace, loopsEnd}
@@ -63,6 +62,9 @@ pub record Cuts (cipher : Cipher) : Type 0 where
   pub cut : (file : List ℕ) (n : ℕ) → surveying cipher file .refusal ≡ accepted → n < length file
       → let v = cutAt n (sections cipher file) in
       CutNumber (v .number) × (surveying cipher (take n file) ≡ refusedOpening (v .lacks) (v .number))
-  -- 5. opening tells the same number of bytes, whatever the ring and the room
-  pub opened : (ring : List (List ℕ)) (file : List ℕ) (sound : List ℤ)
+  -- 5. opening, whatever the ring and the room, answers a refused file as here, and writes nothing; it tells the same
+  -- number of bytes of any file
+  pub opened : (ring : List (List ℕ)) (file : List ℕ) (sound : List ℤ) → surveying cipher file .refusal ≢ accepted
+      → openingPack cipher ring file sound ≡ outcome (surveying cipher file) sound
+  pub openedLacks : (ring : List (List ℕ)) (file : List ℕ) (sound : List ℤ)
       → openingPack cipher ring file sound .answer .lacks ≡ surveying cipher file .lacks
