@@ -2,6 +2,7 @@
 -- breaks off; and a front of an accepted file lacks only what it is asked to have.
 use mathlib.Core.{Path._≡_, Path.refl, Path.sym, Path.ap, Path.ap₂, Path.subst, Path._∙_, Logic._≢_}
 use mathlib.Core.{Bool.Bool, Bool.true, Bool.false, Bool.cond, List.List, List.[], List._∷_, List._++_}
+use mathlib.Core.List.{append-nil}
 use Prim.Native.Nat.{ℕ, _+_, _-_, _<_, _≤_}
 use native.Mathlib.Omega.{arith}
 use borrow.Author.Tests.{ltb-true, ltb-false, lt-ltb, le-ltb}
@@ -16,11 +17,11 @@ use Rattle.refusals.proofs.Faults.{by-verdict}
 use Rattle.refusals.proofs.Settled.{by-settled, settled-left, first-here}
 use Rattle.trivium.specs.Keystream.{trivium}
 use Rattle.pack.specs.Calls.{refusedOpening, lacksOf, surveying, openingPack}
-use Rattle.pack.specs.Cuts.{Section, sections, cutAt, CutNumber, CutsLack, Cuts}
+use Rattle.pack.specs.Cuts.{Section, sections, cutAt, CutNumber, CutsLack, refusedSo, Cuts}
 use Rattle.pack.specs.Faults.{faultsFromSamples, faultsFromKey, fileFaults, roomFaults, openFaults}
 use Rattle.pack.specs.Places.{sampleCount}
 use Rattle.pack.specs.declared.Opened.{Opened}
-use Rattle.pack.proofs.Growing.{asked, Parting, cut, other, files-grown, parting, only-asked}
+use Rattle.pack.proofs.Growing.{asked, Parting, cut, other, files-grown, parting, only-asked, cut-asked}
 use Rattle.pack.proofs.AcceptedFiles.{loop-right}
 use Rattle.pack.proofs.Theorems.{file-numbered, file-right, survey-refusal}
 
@@ -173,6 +174,23 @@ asked-cut n (s ∷ more) h = go (ltb n (s .counted)) (ltb n (s .ended)) refl ref
     go false false b c rest =
         sym (verdict-from 2 (asked n (s ∷ more)) (ltb-false n (s .counted) b, (ltb-false n (s .ended) c, tt))) ∙ rest
 
+-- counts stand before what they count
+in-order : (cipher : Cipher) (file : List ℕ) → InOrder (sections cipher file)
+in-order cipher file = (omega arith, (omega arith, (omega arith, (omega arith, tt))))
+
+-- the same for a file that breaks off
+ends-so : (cipher : Cipher) (file : List ℕ) → CutNumber (surveying cipher file .refusal)
+    → surveying cipher file ≡ refusedSo (cutAt (length file) (sections cipher file))
+ends-so cipher file among =
+    let some = told-together cipher file .0 among in
+    let bound : ℕ = 32872 + cipher .valueBytes in
+    let found : verdict (fileFaults cipher file) ≡ cutAt (length file) (sections cipher file) =
+    cut-asked (files-grown file [] cipher bound (omega arith)) (omega (arith, survey-lacks cipher file))
+    ∙ ap (λ (f : List ℕ). verdict (asked (length file) (sections cipher f))) (append-nil file)
+    ∙ asked-cut (length file) (sections cipher file) (in-order cipher file) in
+    let number = survey-refusal cipher file ∙ ap (λ (v : Verdict). v .number) found in
+    answered cipher file (sym found) (omega (arith, number))
+
 -- a cut in a section has its number; one behind it, that of a section behind it
 cut-among : (n : ℕ) (s : Section) (more : List Section) → CutNumber (s .number)
     → (s .ended ≤ n → CutNumber (cutAt n more .number))
@@ -199,7 +217,7 @@ module _ (cipher : Cipher) (file : List ℕ) (n : ℕ) (right : AllRight (fileFa
         (files-grown front rest cipher (32872 + cipher .valueBytes) (omega arith))
         (subst (λ (f : List ℕ). AllRight (fileFaults cipher f)) (sym whole) right)
         ∙ ap₂ (λ (k : ℕ) (f : List ℕ). verdict (asked k (sections cipher f))) size whole
-        ∙ asked-cut n (sections cipher file) (omega arith, (omega arith, (omega arith, (omega arith, tt))))
+        ∙ asked-cut n (sections cipher file) (in-order cipher file)
 
     cut-number : CutNumber (cutAt n (sections cipher file) .number)
     unfolding fileFaults faultsFromKey faultsFromSamples
@@ -216,6 +234,7 @@ pub cuts : (cipher : Cipher) → Cuts cipher
 cuts cipher =
     record {
       lacks = told-together cipher;
+      ends = ends-so cipher;
       fewer = λ file more few. fewer cipher file more few (parted cipher file more);
       enough = λ file more some all. enough cipher file more some all (parted cipher file more);
       cut =

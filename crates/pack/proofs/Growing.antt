@@ -15,7 +15,7 @@ use Rattle.refusals.specs.Rules.{Wrong, _over_, _unlike_, _endsBefore_, broken,
 use Rattle.refusals.specs.Rules.{AllRight, lacking, verdictOf, verdict, reason}
 use Rattle.refusals.specs.declared.Verdict.{Verdict}
 use Rattle.refusals.proofs.Faults.{right, fine, is-wrong, lacking-passes, verdict-right, verdict-at, verdict-from}
-use Rattle.refusals.proofs.Faults.{verdict-tail, reason-here, reason-later}
+use Rattle.refusals.proofs.Faults.{verdict-tail, by-verdict, reason-here, reason-later}
 use Rattle.pack.specs.Cuts.{Section, section, sections}
 use Rattle.pack.specs.Faults.{loopSectionFaults, faultsFromSamples, faultsFromKey, fileFaults}
 use Rattle.pack.specs.Layout.{nameGood, loopsGood, fours}
@@ -152,6 +152,10 @@ refused : (f : Fault) (xs : List Fault) → missing (f .wrong) ≡ 0 → broken 
     → verdictOf (f .number) 0 ≡ verdict (f ∷ xs)
 refused f xs none b = verdict-at 0 (f ∷ xs) (is-wrong (f .wrong) b) refl (sym none)
 
+-- and the rule on the file's end, broken or not
+end-lacks-none : (short p n : ℕ) → lacking ((short over p says n) ∷ []) ≡ 0
+end-lacks-none short p n = by-verdict (λ (k l : ℕ). l ≡ 0) refl ((short over p says n) ∷ []) (λ _. refl, tt)
+
 lacks-none : (xs : List Fault) {n : ℕ} → verdictOf n 0 ≡ verdict xs → 0 ≡ lacking xs
 lacks-none xs e = ap (λ (v : Verdict). v .lacks) e
 
@@ -189,17 +193,9 @@ module _ {bound short long : ℕ} (more : short ≤ long) where
           ))
       go false b later =
           let there : p ≤ short = ltb-false short p b in held _ _ there (omega arith) (later there)
-  parting (last {p} {q} {n} e far) = go (ltb p short) refl
-    where
-      go : (b : Bool) → ltb p short ≡ b
-          → Parting bound short long ((short over p says n) ∷ []) ((long over q says n) ∷ [])
-      go true b =
-          let on : p < short = ltb-true p short b in
-          let here : verdictOf n 0 ≡ verdict ((short over p says n) ∷ []) = verdict-at 0 _ on refl refl in
-          other (lacks-none _ here) (λ _. sym here ∙ verdict-at 0 _ (omega arith) refl refl)
-      go false b =
-          let there : short ≤ p = ltb-false p short b in
-          other (lacks-none _ (verdict-right _ (there, tt))) (λ beyond. absurd (omega arith))
+  parting (last {p} {q} {n} e far) =
+      other (sym (end-lacks-none short p n))
+      (λ beyond. sym (verdict-at 0 _ (omega arith) refl refl) ∙ verdict-at 0 _ (omega arith) refl refl)
 
   -- if nothing is wrong with the long file, the short one is asked for what is missing, and for nothing else
   pub only-asked : {xs ys zs : List Fault} → Grown bound short long xs ys zs → AllRight ys → verdict xs ≡ verdict zs
@@ -211,3 +207,23 @@ module _ {bound short long : ℕ} (more : short ≤ long) where
       ∙ verdict-tail (short endsBefore q says n) xs zs (λ (there : q ≤ short). only-asked (rest (omega arith)) (h .1))
   only-asked (last {p} {q} {n} e far) h =
       sym (verdict-right ((short over p says n) ∷ []) (omega arith, tt)) ∙ verdict-right [] tt
+
+-- and so is a file that breaks off, whatever is wrong with what stands behind it
+pub cut-asked : {bound short long : ℕ} {xs ys zs : List Fault} → Grown bound short long xs ys zs → 0 < lacking xs
+    → verdict xs ≡ verdict zs
+cut-asked (read {v} {w} {n} {xs} {ys} {zs} none none' e rest) some = go (broken v) refl (λ h l. cut-asked (rest h) l)
+  where
+    go : (b : Bool) → broken v ≡ b → (Right v → 0 < lacking xs → verdict xs ≡ verdict zs)
+        → verdict ((v says n) ∷ xs) ≡ verdict zs
+    go true b later = absurd (omega (arith, some, lacks-none _ (refused (v says n) xs none b)))
+    go false b later =
+        let good = right v b in
+        sym (verdict-from 1 ((v says n) ∷ xs) (good, tt))
+        ∙ later good (omega (arith, some, lacking-passes (v says n) xs good))
+cut-asked {short = short} (reach p {q} {n} {xs} {ys} {zs} e far rest) some =
+    ap (λ (k : ℕ). verdict ((short endsBefore k says n) ∷ xs)) e
+    ∙ verdict-tail (short endsBefore q says n) xs zs
+    (λ (there : q ≤ short).
+    let passed : p ≤ short = omega arith in
+    cut-asked (rest passed) (omega (arith, some, lacking-passes (short endsBefore p says n) xs passed)))
+cut-asked {short = short} (last {p} {q} {n} e far) some = absurd (omega (arith, some, end-lacks-none short p n))

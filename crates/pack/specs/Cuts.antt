@@ -5,7 +5,7 @@ use lib.{Dec.ltb, IntN.ℤ, ListN.length, ListN.take}
 use Rattle.octets.specs.Stream.{Cipher}
 use Rattle.refusals.specs.Numbers.{accepted, cutInName, cutInKey, cutInSamples, cutInLoops}
 use Rattle.refusals.specs.{Outcome.outcome, Rules.verdictOf, Rules.reason, declared.Verdict.Verdict}
-use Rattle.pack.specs.Calls.{refusedOpening, surveying, openingPack}
+use Rattle.pack.specs.{Calls.refusedOpening, Calls.surveying, Calls.openingPack, declared.Opened.Opened}
 use Rattle.pack.specs.Faults.{fileFaults}
 use Rattle.pack.specs.Places.{keyPlace, samplePlace, bodyPlace, loopPlace, loopsPlace, loopsEnd}
 
@@ -44,9 +44,16 @@ CutNumber n = (cutInName ≤ n) × (n ≤ cutInLoops)
 abbrev pub CutsLack : ℕ → ℕ → Type 0
 CutsLack number lacks = (CutNumber number → 0 < lacks) × (0 < lacks → CutNumber number)
 
+-- what a refusal with both numbers answers
+abbrev pub refusedSo : Verdict → Opened
+refusedSo v = refusedOpening (v .lacks) (v .number)
+
 pub record Cuts (cipher : Cipher) : Type 0 where
-  -- 1. a file lacks some bytes if it is refused with 30 to 33, and none otherwise
+  -- 1. a file lacks some bytes if it is refused with 30 to 33, and none otherwise; with 30 to 33 both numbers are those
+  -- of the section in which it ends
   pub lacks : (file : List ℕ) → CutsLack (surveying cipher file .refusal) (surveying cipher file .lacks)
+  pub ends : (file : List ℕ) → CutNumber (surveying cipher file .refusal)
+      → surveying cipher file ≡ refusedSo (cutAt (length file) (sections cipher file))
   -- 2. with fewer bytes behind it than it lacks, whatever they are, it is refused with the same number and lacks that
   -- many fewer
   pub fewer : (file more : List ℕ) → let o = surveying cipher file in
@@ -61,7 +68,7 @@ pub record Cuts (cipher : Cipher) : Type 0 where
   -- 4. an accepted file, cut anywhere, is refused by the section in which the cut lies
   pub cut : (file : List ℕ) (n : ℕ) → surveying cipher file .refusal ≡ accepted → n < length file
       → let v = cutAt n (sections cipher file) in
-      CutNumber (v .number) × (surveying cipher (take n file) ≡ refusedOpening (v .lacks) (v .number))
+      CutNumber (v .number) × (surveying cipher (take n file) ≡ refusedSo v)
   -- 5. opening, whatever the ring and the room, answers a refused file as here, and writes nothing; it tells the same
   -- number of bytes of any file
   pub opened : (ring : List (List ℕ)) (file : List ℕ) (sound : List ℤ) → surveying cipher file .refusal ≢ accepted
