@@ -1,5 +1,6 @@
 // What a file has wrong: the rules on a pack in their order, apart from what is done with one that is right. Where the
 // file breaks off, the verdict says in which section, and how many bytes are missing of its count or else of its body.
+// Of a count of one byte it is that one, since a section is read from where the one before it ends.
 use refusals::Verdict;
 ghost use mathlib.Core.Path.{_≡_};
 ghost use Prim.Native.Nat.{_+_, _*_, _≤_};
@@ -54,7 +55,7 @@ fn loop_fault(file: &[u8], at: usize, samples: usize) -> Verdict
     ensures { λ r. ⌜ r ≡ verdict (loopSectionFaults (now (file .entry)) at samples) ⌝ }
 {
     if file.len() < at + 1 {
-        return verdict(refusals::CUT_IN_LOOPS, at + 1 - file.len());
+        return verdict(refusals::CUT_IN_LOOPS, 1);
     }
     let count = file[at] as usize;
     if pack::MOST_LOOPS < count {
@@ -98,7 +99,7 @@ fn key_fault(file: &[u8], at: usize) -> Verdict
     ensures { λ r. ⌜ r ≡ verdict (faultsFromKey Keystream.trivium (now (file .entry)) at) ⌝ }
 {
     if file.len() < at + 1 {
-        return verdict(refusals::CUT_IN_KEY, at + 1 - file.len());
+        return verdict(refusals::CUT_IN_KEY, 1);
     }
     if file[at] != pack::KEY_COUNT {
         return verdict(refusals::BAD_KEY_COUNT, 0);
@@ -118,7 +119,7 @@ pub fn file_fault(file: &[u8]) -> Verdict
     ensures { λ r. ⌜ r ≡ verdict (fileFaults Keystream.trivium (now (file .entry))) ⌝ }
 {
     if file.len() < 1 {
-        return verdict(refusals::CUT_IN_NAME, 1 - file.len());
+        return verdict(refusals::CUT_IN_NAME, 1);
     }
     let count = file[0] as usize;
     if pack::MOST_NAME < count {

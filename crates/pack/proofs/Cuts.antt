@@ -5,12 +5,12 @@ use mathlib.Core.{Bool.Bool, Bool.true, Bool.false, Bool.cond, List.List, List.[
 use mathlib.Core.List.{append-nil}
 use Prim.Native.Nat.{ℕ, _+_, _-_, _<_, _≤_}
 use native.Mathlib.Omega.{arith}
-use borrow.Author.Tests.{ltb-true, ltb-false, lt-ltb, le-ltb}
+use borrow.Author.Tests.{ltb-true, ltb-false}
 use lib.{Dec.ltb, IntN.ℤ, Seq.length-take-le}
 use lib.ListN.{length, take, drop, length-append, take-append-drop}
 use Rattle.octets.specs.Stream.{Cipher}
 use Rattle.refusals.specs.{Numbers.accepted, Numbers.cutInName, Outcome.Outcome, Outcome.outcome}
-use Rattle.refusals.specs.Rules.{_endsBefore_, Fault, _says_, AllRight, first, lacking, verdictOf, verdict, reason}
+use Rattle.refusals.specs.Rules.{Fault, AllRight, first, verdictOf, verdict, reason}
 use Rattle.refusals.specs.declared.Verdict.{Verdict}
 use Rattle.refusals.proofs.Faults.{none-wrong, right-both, first-append, verdict-right, verdict-at, verdict-from}
 use Rattle.refusals.proofs.Faults.{by-verdict}
@@ -178,7 +178,7 @@ asked-cut n (s ∷ more) h = go (ltb n (s .counted)) (ltb n (s .ended)) refl ref
 in-order : (cipher : Cipher) (file : List ℕ) → InOrder (sections cipher file)
 in-order cipher file = (omega arith, (omega arith, (omega arith, (omega arith, tt))))
 
--- the same for a file that breaks off
+-- a file that breaks off is told the section in which it ends
 ends-so : (cipher : Cipher) (file : List ℕ) → CutNumber (surveying cipher file .refusal)
     → surveying cipher file ≡ refusedSo (cutAt (length file) (sections cipher file))
 ends-so cipher file among =

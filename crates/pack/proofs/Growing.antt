@@ -8,9 +8,9 @@ use Prim.Native.Nat.{ℕ, suc, _+_, _-_, _*_, _<_, _≤_}
 use native.Mathlib.Omega.{arith}
 use borrow.Author.Tests.{ltb-true, ltb-false}
 use lib.{Dec.eqb, Dec.ltb, ListN.length, ListN.List·getD-append}
-use Rattle.octets.specs.{Buffers.slice, Digits.number, Digits.numberAt, Rows.numbersAt, Stream.Cipher}
+use Rattle.octets.specs.{Buffers.slice, Digits.number, Rows.numbersAt, Stream.Cipher}
 use Rattle.octets.proofs.{Rows.numbers-front, Rows.length-equal, Slices.slice-front}
-use Rattle.refusals.specs.Numbers.{accepted, cutInName, cutInKey, cutInSamples, cutInLoops}
+use Rattle.refusals.specs.Numbers.{cutInKey, cutInSamples, cutInLoops}
 use Rattle.refusals.specs.Rules.{Wrong, _over_, _unlike_, _endsBefore_, broken, Right, missing, Fault, _says_}
 use Rattle.refusals.specs.Rules.{AllRight, lacking, verdictOf, verdict, reason}
 use Rattle.refusals.specs.declared.Verdict.{Verdict}

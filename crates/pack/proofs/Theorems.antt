@@ -1,13 +1,12 @@
 -- The laws that Demand2.antt puts together: sealed parts open to themselves, an opened file seals to itself, and the
 -- opener accepts exactly the layouts of parts within their limits, each from the laws of accepted and of laid files.
 -- Then what refusals leave, and what a ring holds and makes.
-use Prim.Native.Nat.{ℕ, _+_, _*_, _<_, _≤_}
-use mathlib.Core.{List.List, List.[], List._∷_, Path._≡_, Path.refl, Path.sym, Path.ap, Path.subst, Path._∙_}
+use Prim.Native.Nat.{ℕ, _*_, _<_, _≤_}
+use mathlib.Core.{List.List, Path._≡_, Path.refl, Path.sym, Path.ap, Path.subst, Path._∙_}
 use native.Mathlib.Omega.{arith}
-use lib.{Dec.T, IntN.ℤ, IntN.pos, ListN.length, ListN.getD, ListN.take, ListN.replicate, Signed.mag}
-use Rattle.octets.specs.{Buffers.slice, Buffers.placed, Stream.Cipher}
-use Rattle.octets.proofs.{Buffers.put-whole, Buffers.take-placed, Numbers.Below, Numbers.number-below}
-use Rattle.octets.proofs.{Slices.length-slice, Streams.OfBytes}
+use lib.{Dec.T, IntN.ℤ, IntN.pos, ListN.length, ListN.getD, ListN.take, Signed.mag}
+use Rattle.octets.specs.{Buffers.placed, Stream.Cipher}
+use Rattle.octets.proofs.{Buffers.take-placed, Numbers.Below, Numbers.number-below, Streams.OfBytes}
 use Rattle.refusals.specs.{Numbers.accepted, Outcome.Outcome, Outcome.outcome}
 use Rattle.refusals.specs.Rules.{AllRight, first, Leaves}
 use Rattle.refusals.proofs.Faults.{numbered, all-right, none-wrong, right-after}

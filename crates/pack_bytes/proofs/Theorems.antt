@@ -10,7 +10,7 @@ use Rattle.octets.proofs.{Buffers.take-placed, Rows.many-read}
 use Rattle.refusals.specs.{Numbers.accepted, Numbers.badKey, Numbers.noRoom, Numbers.cutInName, Outcome.Outcome}
 use Rattle.refusals.specs.{Outcome.outcome, Rules._under_, Rules._unlike_, Rules.Fault, Rules._says_, Rules.first}
 use Rattle.refusals.specs.Rules.{Leaves}
-use Rattle.refusals.proofs.Faults.{none-wrong, right-both, right-after, rule-passes, by-verdict}
+use Rattle.refusals.proofs.Faults.{none-wrong, right-both, right-after, rule-passes, Each, by-verdict}
 use Rattle.refusals.proofs.Settled.{done-if, settled-number, settled-leaves, answer-done}
 use Rattle.trivium.specs.Keystream.{trivium}
 use Rattle.pack.specs.Faults.{faultsFromSamples, faultsFromKey, fileFaults, roomFaults, openFaults}
@@ -67,17 +67,19 @@ loops-told file ring run before z =
     ∙ take-placed run numbers (omega arith)
     ∙ loops-of-parts (ringOf ring) file
 
--- a room's own number is below those for a cut
-room-below : (needed room : ℕ) → first (roomFaults needed room) < cutInName
-room-below needed room =
-    by-verdict (λ (n l : ℕ). n < cutInName) (omega arith) (roomFaults needed room) (λ _. omega arith, tt)
+-- rules whose numbers are below those for a cut, as those of rooms are
+abbrev Below : ℕ → ℕ → Type 0
+Below number lacks = number < cutInName
+
+below-cuts : (faults : List Fault) → Each Below faults → first faults < cutInName
+below-cuts = by-verdict Below (omega arith)
 
 cut-survey : (file answer : List ℕ) → CutsLack (packSurvey file answer .answer) (packLacks file)
 unfolding packSurvey packLacks
 cut-survey file answer =
     subst (λ (n : ℕ). CutsLack n (surveying trivium file .lacks))
     (sym (settled-number _ _ _ (λ (o : Outcome ℕ ℕ). o .answer) refl (λ n. refl)))
-    (lacks-behind trivium file (roomFaults numbersRoom (length answer)) (room-below numbersRoom (length answer)))
+    (lacks-behind trivium file (roomFaults numbersRoom (length answer)) (below-cuts _ (λ _. omega arith, tt)))
 
 cut-open : (file ring : List ℕ) (samples : List ℤ) (answer : List ℕ) → length ring ≡ ringBytes
     → CutsLack (packOpen file ring samples answer .number) (packLacks file)
@@ -85,14 +87,12 @@ unfolding packOpen packLacks openFaults
 cut-open file ring samples answer right =
     let some : List Fault = roomFaults (sampleCount trivium file) (length samples) in
     let rest : List Fault = (length answer under numbersRoom says noRoom) ∷ [] in
-    let below : first (some ++ rest) < cutInName =
-    by-verdict (λ (n l : ℕ). n < cutInName) (omega arith) (some ++ rest) (λ _. omega arith, (λ _. omega arith, tt)) in
     subst (λ (n : ℕ). CutsLack n (surveying trivium file .lacks))
     (sym
     (settled-number _ _ _ (λ (o : PackOpened). o .number) refl (λ n. refl)
     ∙ sym (rule-passes (length ring unlike ringBytes says badKey) _ right)
     ∙ ap first (append-assoc (fileFaults trivium file) some rest)))
-    (lacks-behind trivium file (some ++ rest) below)
+    (lacks-behind trivium file (some ++ rest) (below-cuts _ (λ _. omega arith, (λ _. omega arith, tt))))
 
 pub told-alike : (file ring : List ℕ) → ToldAlike file ring
 told-alike file ring =

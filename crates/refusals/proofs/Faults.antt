@@ -96,6 +96,10 @@ module _ {A : Type 0} (about : Fault → A) (none : A) where
   told-from (suc k) [] h = refl
   told-from (suc k) (f ∷ faults) h = rw (fine (f .wrong) (h .0)) (told-from k faults (h .1))
 
+-- what a broken rule lacks
+abbrev lack : Fault → ℕ
+lack f = missing (f .wrong)
+
 -- ---- all rules hold
 
 pub all-right : (faults : List Fault) → AllRight faults → accepted ≡ first faults
@@ -161,7 +165,7 @@ abbrev pub numberAt : ℕ → List Fault → ℕ
 numberAt = toldAt (λ f. f .number) accepted
 
 abbrev pub lackingAt : ℕ → List Fault → ℕ
-lackingAt = toldAt (λ f. missing (f .wrong)) 0
+lackingAt = toldAt lack 0
 
 pub refused-at : (k : ℕ) (faults : List Fault) → FailsAt k faults → numberAt k faults ≡ first faults
 unfolding first
@@ -228,25 +232,23 @@ rule-passes f faults h = first-from 1 (f ∷ faults) (h, tt)
 
 pub lacking-passes : (f : Fault) (faults : List Fault) → Right (f .wrong) → lacking faults ≡ lacking (f ∷ faults)
 unfolding lacking
-lacking-passes f faults h = told-from (λ f. missing (f .wrong)) 0 1 (f ∷ faults) (h, tt)
+lacking-passes f faults h = told-from lack 0 1 (f ∷ faults) (h, tt)
 
 -- ---- both numbers of a refusal
 
 pub verdict-right : (faults : List Fault) → AllRight faults → verdictOf accepted 0 ≡ verdict faults
 unfolding lacking
-verdict-right faults h =
-    ap₂ verdictOf (all-right faults h) (told-right (λ f. missing (f .wrong)) 0 faults h)
+verdict-right faults h = ap₂ verdictOf (all-right faults h) (told-right lack 0 faults h)
 
 pub verdict-at : (k : ℕ) (faults : List Fault) {n l : ℕ} → FailsAt k faults → n ≡ numberAt k faults
     → l ≡ lackingAt k faults
     → verdictOf n l ≡ verdict faults
 unfolding lacking
-verdict-at k faults h p q =
-    ap₂ verdictOf (p ∙ refused-at k faults h) (q ∙ told-at (λ f. missing (f .wrong)) 0 k faults h)
+verdict-at k faults h p q = ap₂ verdictOf (p ∙ refused-at k faults h) (q ∙ told-at lack 0 k faults h)
 
 pub verdict-from : (k : ℕ) (faults : List Fault) → RightBefore k faults → verdict (drop k faults) ≡ verdict faults
 unfolding lacking
-verdict-from k faults h = ap₂ verdictOf (first-from k faults h) (told-from (λ f. missing (f .wrong)) 0 k faults h)
+verdict-from k faults h = ap₂ verdictOf (first-from k faults h) (told-from lack 0 k faults h)
 
 -- the same rule in front of two lists that come to the same where it holds
 pub verdict-tail : (f : Fault) (xs ys : List Fault) → (Right (f .wrong) → verdict xs ≡ verdict ys)

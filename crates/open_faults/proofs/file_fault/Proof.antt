@@ -41,6 +41,6 @@ returns-5 c =
 pub file-fault-spec : {M : Type 1} → statement M
 file-fault-spec =
     tie.close
-    (tie.spec (λ c. search needs) (λ c κs. search needs) returns (λ c. search needs) cast-count (λ c κs. search needs)
-    returns-2 (λ c. search needs) (λ c. search needs) (λ c κs. search needs) returns-3 (λ c κs. search needs)
+    (tie.spec (λ c κs. search needs) returns (λ c. search needs) cast-count (λ c κs. search needs) returns-2
+    (λ c. search needs) (λ c. search needs) (λ c κs. search needs) returns-3 (λ c κs. search needs)
     (λ c κs. search needs) (λ c κs. search needs) returns-4 (λ c κs. search needs) returns-5)

@@ -1,10 +1,10 @@
 -- `pack_text::write_refused` meets its contract: one number is a line, and two are a word, a number and a line.
-use mathlib.Core.{Path._≡_, Path.refl, Path.ap, Path._∙_, List.List, List.[], List._∷_, List._++_}
-use Prim.Native.Nat.{ℕ, _+_, _≤_}
+use mathlib.Core.{Path._≡_, Path.ap, Path._∙_, List.List, List.[], List._∷_, List._++_}
+use Prim.Native.Nat.{ℕ, _+_}
 use native.Mathlib.Omega.{arith}
 use borrow.Author.Needs.{needs}
-use lib.ListN.{length, length-append}
-use Rattle.refusals.specs.Outcome.{Outcome, outcome}
+use lib.ListN.{length-append}
+use Rattle.refusals.specs.Outcome.{outcome}
 use Rattle.pack_text.specs.Text.{decimal, line, refusedWord, writing}
 use Rattle.pack_text.proofs.Decimals.{length-decimal}
 use Rattle.pack_text.proofs.Lines.{length-line, text-first, text-ends, number-so, text-on, refused-plain}

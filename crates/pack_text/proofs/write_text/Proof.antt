@@ -8,7 +8,7 @@ use Rattle.octets.specs.Buffers.{slice}
 use Rattle.trivium.specs.Keystream.{trivium}
 use Rattle.pack.specs.{Calls.surveying, declared.Opened.Opened}
 use Rattle.pack_text.specs.Text.{packLines, writing}
-use Rattle.pack_text.proofs.{Lines.text-first, write_text.Statement.statement}
+use Rattle.pack_text.proofs.write_text.Statement.{statement}
 use Rattle.pack_text.proofs.Surveys.{linesOf, short-keys, name-short, told-accepted, told-refused}
 use Rattle.pack_text.proofs.write_text.Tie as tie
 
