@@ -1,11 +1,15 @@
 /*
  * Seals the sound of a WAV file, mono, 16 bits, PCM, as a pack. The loops of a 'smpl' chunk go with it; the rate does
  * not, for a pack has none. Files of the extensible format are read too, and files that were written to a pipe.
+ *
+ * A WAV file may have samples of -32768, and a pack may not: an instrument negates samples, and this one has no
+ * opposite. The sound is sealed as it is or not at all, unless the user says --raise.
  */
 #include "files.h"
 
 static const char usage[] =
-    "usage: wav_to_pack KEYS KEY_NUMBER VALUE_HEX NAME IN.wav OUT.pack\n"
+    "usage: wav_to_pack [--raise] KEYS KEY_NUMBER VALUE_HEX NAME IN.wav OUT.pack\n"
+    "  --raise     seals samples of -32768, which a pack does not hold, as -32767, and prints how many there were\n"
     "  KEYS        a file of 40 bytes, four keys of ten bytes each\n"
     "  KEY_NUMBER  which of them, 0 to 3\n"
     "  VALUE_HEX   the initial value, ten bytes as 20 hex digits. It must never be used twice under a key: two packs\n"
@@ -22,6 +26,7 @@ enum {
     EXTENSIBLE = 0xFFFE, /* the format itself stands further behind, with what belongs to it */
     SAMPLE_BITS = 16,
     SAMPLE_BYTES = 2,
+    LOWEST_SAMPLE = INT16_MIN,
     SMPL_HEAD = 36,
     SMPL_LOOP = 24,
     FORWARD = 0,
@@ -159,6 +164,31 @@ static void read_wav(const char *path, struct sound *sound)
     free(wav.bytes);
 }
 
+/* The first sample from a place on that a pack does not hold, or the sample count if there is none. */
+static size_t next_lowest(const struct sound *sound, size_t at)
+{
+    while (at < sound->sample_count && sound->samples[at] != LOWEST_SAMPLE) at++;
+    return at;
+}
+
+static size_t count_lowest(const struct sound *sound)
+{
+    size_t count = 0;
+    for (size_t at = next_lowest(sound, 0); at < sound->sample_count; at = next_lowest(sound, at + 1)) count++;
+    return count;
+}
+
+/* A step of one in 65,536 is not heard. Answers how many samples were raised. */
+static size_t raise_lowest(struct sound *sound)
+{
+    size_t raised = 0;
+    for (size_t at = next_lowest(sound, 0); at < sound->sample_count; at = next_lowest(sound, at + 1)) {
+        sound->samples[at] = LOWEST_SAMPLE + 1;
+        raised++;
+    }
+    return raised;
+}
+
 static int hex_digit(char letter)
 {
     static const char digits[] = "0123456789abcdef0123456789ABCDEF";
@@ -214,6 +244,13 @@ _Noreturn static void refused_loop(uint8_t no, const struct order *order)
             (size_t)(loop - sound->loops) / 2 + 1, order->wav_path, loop[0], loop[1] - 1, sound->sample_count);
 }
 
+_Noreturn static void refused_lowest(uint8_t no, const struct order *order)
+{
+    const struct sound *sound = &order->sound;
+    refused(no, "samples of -32768 in %s: %zu, the first is sample %zu, counted from 0, of %zu in all", order->wav_path,
+            count_lowest(sound), next_lowest(sound, 0), sound->sample_count);
+}
+
 /* The library judges; what it has no words for are the files and the figures. */
 _Noreturn static void refused_order(uint8_t no, const struct order *order)
 {
@@ -221,6 +258,7 @@ _Noreturn static void refused_order(uint8_t no, const struct order *order)
     case SEMIVRAKH_BAD_KEY: refused_ring(no, &order->ring);
     case SEMIVRAKH_BAD_NAME: refused_name(no, order->name);
     case SEMIVRAKH_BAD_LOOP: refused_loop(no, order);
+    case SEMIVRAKH_LOWEST_SAMPLE: refused_lowest(no, order);
     case SEMIVRAKH_LONG_NAME:
         refused(no, "NAME has %zu bytes, and a pack's name at most %d", strlen(order->name), SEMIVRAKH_NAME_MOST);
     case SEMIVRAKH_BAD_VALUE:
@@ -239,12 +277,16 @@ _Noreturn static void refused_order(uint8_t no, const struct order *order)
 
 int main(int words, char **word)
 {
+    bool raises = words > 1 && strcmp(word[1], "--raise") == 0;
+    words -= raises;
+    word += raises; /* so the words behind the option have their usual places */
     if (words != 7) stop("%s", usage);
     struct order order = {.ring = read_file(word[1]), .key_number = read_key_number(word[2]), .name = word[4],
                           .wav_path = word[5]};
     order.value_length = read_value(word[3], order.value);
     struct sound *sound = &order.sound;
     read_wav(order.wav_path, sound);
+    size_t raised = raises ? raise_lowest(sound) : 0;
 
     static uint8_t pack[SEMIVRAKH_PACK_MOST];
     size_t pack_length;
@@ -255,6 +297,7 @@ int main(int words, char **word)
     if (no != SEMIVRAKH_OK) refused_order(no, &order);
     write_file(word[6], pack, pack_length);
     printf("samples %zu\nloops %zu\nbytes %zu\n", sound->sample_count, sound->loop_count, pack_length);
+    if (raises) printf("raised %zu\n", raised);
     free(sound->samples);
     free(sound->loops);
     free(order.ring.bytes);

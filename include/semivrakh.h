@@ -79,8 +79,8 @@
 extern "C" {
 #endif
 
-/* The version of this header, 0.4.0: ten thousand times its first number, a hundred times its second, and its third. */
-#define SEMIVRAKH_VERSION 400
+/* The version of this header, 0.5.0: ten thousand times its first number, a hundred times its second, and its third. */
+#define SEMIVRAKH_VERSION 500
 
 /* The numbers for no. */
 enum {
@@ -109,6 +109,7 @@ enum {
     SEMIVRAKH_CUT_IN_KEY = 31,     /* file ends inside its key section */
     SEMIVRAKH_CUT_IN_SAMPLES = 32, /* file ends inside its sample section */
     SEMIVRAKH_CUT_IN_LOOPS = 33,   /* file ends inside its loop section */
+    SEMIVRAKH_LOWEST_SAMPLE = 34,  /* sealing: a sample is -32,768, which has no opposite */
     SEMIVRAKH_OTHER_LENGTH = 36    /* receiver: opening of its own session with another length */
 };
 
@@ -202,6 +203,8 @@ uint8_t semivrakh_cipher_encipher(uint8_t *cipher, size_t cipher_length,
 /*
  * Opens a pack file under the key of the ring that it names. Writes the samples to the front of `samples`, and seven
  * numbers, SEMIVRAKH_OPENED_.., to the front of `answer`. Lend 16,384 samples, and any pack has room.
+ * Samples are -32,767 to 32,767, so each can be negated: a plain word of 80 00 is read as -32,767, as 80 01 is, and is
+ * no fault.
  * Refuses, in order: 1 (ring not 40 bytes), what the file has wrong from front to back (11 to 18, and 30 to 33 where it
  * ends inside a section), 19 (too few samples lent for the pack, or fewer than seven numbers).
  *
@@ -255,7 +258,10 @@ size_t semivrakh_pack_lacks(const uint8_t *file, size_t file_length);
  * Seals a sound as a pack file under the key of the ring that the key number names. `loops` are starts and ends in
  * turn, so `loop_numbers` is twice the count of loops. Writes the file to the front of `output` and its length to
  * `*file_length`. Lend 32,882 bytes, and any pack has room. Never use an initial value twice under one key.
- * Refuses, in order: 1 (ring not 40 bytes), 11, 12, 2, 14, 15, 16, 17, 19.
+ * Samples are -32,767 to 32,767: a sound with a sample of -32,768 is refused with 34, wherever it stands.
+ * What is sealed opens to itself. An accepted pack that is opened and sealed again, with its own name, key number,
+ * initial value and loops, is the same file if no plain word of it was 80 00; otherwise each of these is 80 01 now.
+ * Refuses, in order: 1 (ring not 40 bytes), 11, 12, 2, 14, 15, 34, 16, 17, 19.
  *
  *     uint8_t file[SEMIVRAKH_PACK_MOST];
  *     size_t length;

@@ -36,6 +36,7 @@
     ROW(31, "the file ends inside its key section", "get the file again: it was cut short") \
     ROW(32, "the file ends inside its sample section", "get the file again: it was cut short") \
     ROW(33, "the file ends inside its loop section", "get the file again: it was cut short") \
+    ROW(34, "a sample is -32,768, which has no opposite", "raise each such sample to -32,767, which nobody hears; wav_to_pack does it with --raise") \
     ROW(36, "an opening of the session in hand names another length", "keep what is held; the sender was set back or made anew: pair both ends anew")
 
 /* The refusal in words. A number that no call answers is called so. */

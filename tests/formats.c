@@ -114,22 +114,40 @@ static void covered(const char *label, const uint8_t *key, const struct block *v
     same(label, output, length);
 }
 
-static void pack_sealed(const struct block *ring, const struct block *value) {
-    uint8_t file[BYTES_MOST];
+/* A file of the example's parts, with this sound. Hands back its length. */
+static size_t seal(const char *label, uint8_t number, const struct block *ring, const struct block *value,
+                   const int16_t sound[SAMPLES], uint8_t file[BYTES_MOST]) {
     size_t length = 0;
-    accepted("pack file", semivrakh_pack_seal(name, sizeof name, ring->bytes, ring->length, KEY_NUMBER, value->bytes,
-                                              value->length, samples, SAMPLES, loops, 2, file, sizeof file, &length));
-    same("pack file", file, length);
+    holds(label, semivrakh_pack_seal(name, sizeof name, ring->bytes, ring->length, KEY_NUMBER, value->bytes,
+                                     value->length, sound, SAMPLES, loops, 2, file, BYTES_MOST, &length) == number);
+    return length;
 }
 
-static void pack_opened(const struct block *ring) {
+static void pack_sealed(const char *label, const struct block *ring, const struct block *value,
+                        const int16_t sound[SAMPLES]) {
+    uint8_t file[BYTES_MOST];
+    size_t length = seal(label, SEMIVRAKH_OK, ring, value, sound, file);
+    same(label, file, length);
+}
+
+static void pack_opened(const char *label, const struct block *ring, const int16_t expected[SAMPLES]) {
     static const size_t told[SEMIVRAKH_OPENED_NUMBERS] = {SAMPLES, KEY_NUMBER, 1, sizeof name, 1, 5, 26};
-    const struct block *file = block("pack file");
+    const struct block *file = block(label);
     int16_t sound[SAMPLES] = {0};
     size_t answer[SEMIVRAKH_OPENED_NUMBERS] = {0};
-    accepted("pack file", semivrakh_pack_open(file->bytes, file->length, ring->bytes, ring->length, sound, SAMPLES,
-                                              answer, SEMIVRAKH_OPENED_NUMBERS));
-    holds("pack file", memcmp(sound, samples, sizeof samples) == 0 && memcmp(answer, told, sizeof told) == 0);
+    accepted(label, semivrakh_pack_open(file->bytes, file->length, ring->bytes, ring->length, sound, SAMPLES, answer,
+                                        SEMIVRAKH_OPENED_NUMBERS));
+    holds(label, memcmp(sound, expected, sizeof sound) == 0 && memcmp(answer, told, sizeof told) == 0);
+}
+
+/* The lowest word is read as the next, which is what sealing writes; the lowest sample is refused. */
+static void lowest_word(const struct block *ring, const struct block *value) {
+    static const int16_t raised[SAMPLES] = {-32767, -2, 32767}, lowest[SAMPLES] = {-32768, -2, 32767};
+    uint8_t file[BYTES_MOST];
+    pack_opened("pack lowest word", ring, raised);
+    pack_opened("pack raised word", ring, raised);
+    pack_sealed("pack raised word", ring, value, raised);
+    seal("pack lowest word", SEMIVRAKH_LOWEST_SAMPLE, ring, value, lowest, file);
 }
 
 /* The front of the pack file, of so many bytes, is refused as the paper's table says. */
@@ -176,8 +194,9 @@ static void pack(void) {
     same("record cipher", cipher, sizeof cipher);
     covered("pack keystream", key, value, zeros, sizeof zeros);
     covered("pack enciphered", key, value, words, sizeof words);
-    pack_sealed(ring, value);
-    pack_opened(ring);
+    pack_sealed("pack file", ring, value, samples);
+    pack_opened("pack file", ring, samples);
+    lowest_word(ring, value);
     pack_cut(ring);
 }
 

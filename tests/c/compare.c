@@ -1,11 +1,11 @@
 /*
  * Compares the library with the model on generated input.
  *
- *   compare (--short | --long) [--seed N] [--broken vector | tap | refusal | lack]
+ *   compare (--short | --long) [--seed N] [--broken vector | tap | refusal | lack | lowest]
  *
- * It prints the seed, a table of the answers by call and number, how often a file was cut where, and the count of
- * comparisons. It ends with 1 at the first difference, or if a number or a cut didn't come often enough. --broken
- * spoils the model, so that the comparison must fail: it is the test of this test.
+ * It prints the seed, a table of the answers by call and number, how often a file was cut where, where lowest samples
+ * and words stood, and the count of comparisons. It ends with 1 at the first difference, or if one of these didn't come
+ * often enough. --broken spoils the model, so that the comparison must fail: it is the test of this test.
  */
 #include <inttypes.h>
 #include <stdio.h>
@@ -20,7 +20,7 @@
 
 struct size {
     uint64_t comparisons;        /* at least */
-    uint64_t each_number;        /* over all calls, at least; and each cut in a count or a body */
+    uint64_t each_number;        /* over all calls, at least; and each cut, and each place of a lowest sample */
     uint64_t each_number_a_call; /* for a call that lists it, at least */
 };
 
@@ -33,6 +33,7 @@ static void (*const families[])(void) = {
     packs_of_all_shapes, large_packs,       making_ends,          beginning,       sending,
     sender_hearing,      receiver_hearing,  asking_ends,          damaged_sender,  damaged_receiver,
     random_link_input,   whole_transfers,   some_records_at_the_edges,
+    sealing_lowest_samples,                 opening_lowest_words,
 };
 
 enum { FAMILIES = sizeof families / sizeof *families };
@@ -93,6 +94,11 @@ static void break_lack(void) {
     model_rules.lacks_besides = 1;
 }
 
+static void break_lowest(void) {
+    printf("broken on purpose: the model reads 80 00 as -32768\n");
+    model_rules.lowest_opened = -32768;
+}
+
 static void print_row(enum call call) {
     printf("%-16s 0:%" PRIu64, call_names[call], times_answered(call, 0));
     for (const uint8_t *number = listed_refusals[call]; *number != 0; number++) {
@@ -133,7 +139,7 @@ static bool numbers_often_enough(const struct size *size) {
 }
 
 static int usage(void) {
-    fprintf(stderr, "usage: compare (--short | --long) [--seed N] [--broken vector | tap | refusal | lack]\n");
+    fprintf(stderr, "usage: compare (--short | --long) [--seed N] [--broken vector | tap | refusal | lack | lowest]\n");
     return 2;
 }
 
@@ -150,6 +156,7 @@ int main(int count, char **words) {
     if (strcmp(broken, "tap") == 0) break_tap();
     else if (strcmp(broken, "refusal") == 0) break_refusal();
     else if (strcmp(broken, "lack") == 0) break_lack();
+    else if (strcmp(broken, "lowest") == 0) break_lowest();
     else if (strcmp(broken, "vector") != 0 && *broken != 0) return usage();
 
     all_records_at_the_edges();
@@ -159,6 +166,7 @@ int main(int count, char **words) {
     bool enough = rows_often_enough(size);
     enough &= numbers_often_enough(size);
     enough &= cuts_often_enough(size->each_number);
+    enough &= lowest_often_enough(size->each_number);
     if (!enough) return 1;
     printf("compare: %" PRIu64 " comparisons, no difference\n", comparisons_made());
     return 0;

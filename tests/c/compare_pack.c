@@ -10,6 +10,7 @@
 #include "random.h"
 
 enum { NAME_ROOM = 256, LOOPS_ROOM = 256, EXTRA_MOST = 40 };
+enum { LOWEST_SAMPLE = -32768, LOWEST_WORD = 0x8000, WORD_ABOVE = 0x8001 };
 enum { FILE_ROOM = 1 + NAME_ROOM + 12 + 4 + 2 * (SEMIVRAKH_SAMPLES_MOST + 8) + 1 + 8 * LOOPS_ROOM + EXTRA_MOST };
 
 /* The parts of a pack, in rule or not. */
@@ -30,11 +31,24 @@ static size_t file_length;
 static size_t opened[SEMIVRAKH_OPENED_NUMBERS]; /* what the last accepted opening answered */
 
 /* A file in pieces: of each section its count and then its body. */
-enum { PIECES = 8, SECTIONS = PIECES / 2 };
+enum { PIECES = 8, SECTIONS = PIECES / 2, SAMPLE_COUNT = 4 };
 static const char *const piece_names[PIECES] = {
     "name count", "name", "key count", "key", "sample count", "samples", "loop count", "loops",
 };
 static uint64_t times_cut[PIECES];
+
+/* The sound to be sealed, or the last one opened. No sample is the lowest unless it is put there. */
+static int16_t sound[SEMIVRAKH_SAMPLES_MOST + EXTRA_MOST];
+
+/* Eight samples may be worked on at once, and the rest behind the last whole eight one by one. That is no rule of the
+ * paper, so a sample of -32,768 and a word of 80 00 come at each place of an eight, and in the rest. */
+enum { EIGHT = 8, IN_REST = EIGHT, STANDS, SMALL_MOST = 4 * EIGHT };
+static uint64_t times_refused_at[STANDS], times_read_at[STANDS];
+static uint64_t times_same, times_raised; /* how a pack came back that was opened and sealed again */
+
+static size_t stand_of(size_t place, size_t count) {
+    return place / EIGHT < count / EIGHT ? place % EIGHT : IN_REST;
+}
 
 /* Loops in rule, among at least one sample. */
 static void choose_loops(size_t numbers, uint32_t samples) {
@@ -117,9 +131,19 @@ static struct run lent_file(void) {
     return run_of(file, file_length);
 }
 
+/* Keeps what an accepted opening wrote. Each sample of it can be negated. */
+static void keep_opened(void) {
+    memcpy(opened, after(3), sizeof opened);
+    size_t count = opened[SEMIVRAKH_OPENED_SAMPLES];
+    memcpy(sound, after(2), 2 * count);
+    for (size_t i = 0; i < count; i++) {
+        if (sound[i] == LOWEST_SAMPLE) differ("sample %zu of an opened pack has no opposite", i);
+    }
+}
+
 static uint8_t open_file(struct run ring, size_t sample_room, size_t answer_room) {
     uint8_t no = compare_pack_open(lent_file(), ring, room(sample_room), room(answer_room));
-    if (no == 0) memcpy(opened, after(3), sizeof opened);
+    if (no == 0) keep_opened();
     return no;
 }
 
@@ -329,7 +353,7 @@ static void read_again(const struct sealing *sealing, const int16_t *samples) {
     memcpy(file, after(SEALED_OUTPUT), file_length);
     plan_number(0);
     open_file(sealing->ring, enough(sealing->samples.count), 7);
-    if (memcmp(after(2), samples, 2 * sealing->samples.count) != 0) differ("a sealed sound opens as another");
+    if (memcmp(sound, samples, 2 * sealing->samples.count) != 0) differ("a sealed sound opens as another");
     if (opened[SEMIVRAKH_OPENED_SAMPLES] != sealing->samples.count
         || opened[SEMIVRAKH_OPENED_LOOPS] != sealing->loops.count / 2
         || opened[SEMIVRAKH_OPENED_KEY] != sealing->key_number
@@ -348,19 +372,42 @@ static size_t sealed_length(void) {
     return 18 + parts.name_length + 2 * parts.samples + 4 * parts.loop_numbers;
 }
 
-/* Words at the edges of their range among random ones. */
-static void choose_samples(int16_t *samples, size_t count) {
-    static const int16_t edges[] = {-32768, -32767, -257, -256, -2, -1, 0, 1, 128, 255, 256, 32766, 32767};
-    memcpy(samples, noise(2 * count), 2 * count);
-    for (size_t i = 0; i < count && i < 8; i++) {
-        if (random_once_in(2)) samples[i] = edges[random_below(sizeof edges / sizeof *edges)];
+/* Words at the edges of their range among random ones, and none of -32,768. */
+static void choose_sound(void) {
+    static const int16_t edges[] = {-32767, -32766, -32640, -257, -256, -2, -1, 0, 1, 127, 128, 255, 256, 32766, 32767};
+    memcpy(sound, noise(2 * parts.samples), 2 * parts.samples);
+    for (size_t i = 0; i < parts.samples; i++) {
+        if (sound[i] == LOWEST_SAMPLE || (i < SMALL_MOST && random_once_in(2))) {
+            sound[i] = edges[random_below(sizeof edges / sizeof *edges)];
+        }
     }
 }
 
-static void seal_parts(size_t value_length, size_t ring_length, size_t output_length, faults set) {
-    static int16_t samples[SEMIVRAKH_SAMPLES_MOST + EXTRA_MOST];
+/* A place of the sound, which has at least one: often its first or its last. */
+static size_t some_place(void) {
+    if (random_once_in(4)) return 0;
+    return random_once_in(3) ? parts.samples - 1 : random_below((uint32_t)parts.samples);
+}
+
+static void put_lowest_samples(void) {
+    sound[some_place()] = LOWEST_SAMPLE;
+    if (random_once_in(4)) sound[some_place()] = LOWEST_SAMPLE;
+}
+
+/* Where the first sample of -32,768 stood. */
+static void count_refused_sound(void) {
+    size_t place = 0;
+    while (place < parts.samples && sound[place] != LOWEST_SAMPLE) place++;
+    if (place == parts.samples) differ("a sound is refused for a sample that it has not");
+    times_refused_at[stand_of(place, parts.samples)]++;
+}
+
+/* Seals the sound with the parts, and with the faults of the set that are not in these. */
+static void seal_sound(faults set) {
+    static int16_t samples[SEMIVRAKH_SAMPLES_MOST + EXTRA_MOST]; /* the sound once more, as opening goes over it */
     static uint8_t ring[2 * 40 + 300];
-    choose_samples(samples, parts.samples);
+    size_t value_length = has(set, 2) ? wrong_length(10) : 10, ring_length = has(set, 1) ? wrong_length(40) : 40;
+    memcpy(samples, sound, sizeof samples);
     memcpy(ring, noise(sizeof ring), sizeof ring);
     struct sealing sealing = {
         .name = run_of(parts.name, parts.name_length),
@@ -369,14 +416,16 @@ static void seal_parts(size_t value_length, size_t ring_length, size_t output_le
         .value = value_length == 10 ? run_of(parts.value, 10) : room(value_length),
         .samples = run_of(samples, parts.samples),
         .loops = run_of(parts.loops, parts.loop_numbers),
-        .output = room(output_length),
+        .output = room(enough_but_for(set, sealed_length())),
     };
     plan_first(PACK_SEAL, set);
-    if (compare_pack_seal(&sealing) == 0) read_again(&sealing, samples);
+    uint8_t no = compare_pack_seal(&sealing);
+    if (no == SEMIVRAKH_LOWEST_SAMPLE) count_refused_sound();
+    if (no == 0) read_again(&sealing, samples);
 }
 
-static void seal_with(faults set) {
-    choose_small_parts();
+/* The faults of the set that are in the parts. */
+static void spoil_parts(faults set) {
     if (has(set, 11)) choose_name(random_once_in(2) ? 33 : random_between(34, 255));
     if (has(set, 12)) spoil_name();
     if (has(set, 14)) parts.key_number = (uint8_t)(random_once_in(2) ? 4 : random_between(5, 255));
@@ -385,8 +434,14 @@ static void seal_with(faults set) {
     if (has(set, 16)) choose_loops(many, (uint32_t)parts.samples);
     if (has(set, 17)) spoil_loop((uint32_t)parts.samples);
     if (has(set, 16) && random_once_in(2)) parts.loop_numbers = 2 * random_below(9) + 1;
-    seal_parts(has(set, 2) ? wrong_length(10) : 10, has(set, 1) ? wrong_length(40) : 40,
-               enough_but_for(set, sealed_length()), set);
+}
+
+static void seal_with(faults set) {
+    choose_small_parts();
+    spoil_parts(set);
+    choose_sound();
+    if (has(set, SEMIVRAKH_LOWEST_SAMPLE)) put_lowest_samples();
+    seal_sound(set);
 }
 
 void sealing_packs(void) {
@@ -395,7 +450,8 @@ void sealing_packs(void) {
 
 static void seal_shape(size_t name_length, size_t samples, size_t loops) {
     choose_parts(name_length, samples, loops);
-    seal_parts(10, 40, enough(sealed_length()), name_length > SEMIVRAKH_NAME_MOST ? fault(11) : 0);
+    choose_sound();
+    seal_sound(name_length > SEMIVRAKH_NAME_MOST ? fault(11) : 0);
 }
 
 void packs_of_all_shapes(void) {
@@ -418,6 +474,177 @@ static void read_with_one_change(void) {
     file_length = whole;
 }
 
+/* One sample of -32,768 in so many, and further faults. */
+static void seal_lowest_at(size_t place, size_t count, faults others) {
+    choose_parts(random_between(1, 6), count, random_between(1, 3));
+    spoil_parts(others);
+    choose_sound();
+    sound[place] = LOWEST_SAMPLE;
+    seal_sound(others | fault(SEMIVRAKH_LOWEST_SAMPLE));
+}
+
+/* At each place, alone and with the fault that is told next. The fault that is told before comes too. */
+void sealing_lowest_samples(void) {
+    for (int sounds = 0; sounds < 4; sounds++) {
+        size_t count = random_between(1, SMALL_MOST);
+        for (size_t place = 0; place < count; place++) {
+            seal_lowest_at(place, count, 0);
+            seal_lowest_at(place, count, fault(SEMIVRAKH_MANY_LOOPS));
+        }
+        seal_lowest_at(random_below((uint32_t)count), count, fault(SEMIVRAKH_MANY_SAMPLES));
+    }
+}
+
+/* A file whose plain words are known: it is sealed under this ring, and this is the keystream over them. */
+static uint8_t known_ring[40], keystream[2 * SEMIVRAKH_SAMPLES_MOST];
+
+static uint8_t *enciphered_word(size_t place) {
+    return file + piece_end(SAMPLE_COUNT) + 2 * place;
+}
+
+static unsigned word_at(size_t place) {
+    const uint8_t *bytes = enciphered_word(place), *stream = keystream + 2 * place;
+    return 256u * (bytes[0] ^ stream[0]) + (bytes[1] ^ stream[1]);
+}
+
+static void put_word(size_t place, unsigned word) {
+    uint8_t *bytes = enciphered_word(place);
+    const uint8_t *stream = keystream + 2 * place;
+    bytes[0] = (uint8_t)(word / 256) ^ stream[0];
+    bytes[1] = (uint8_t)(word % 256) ^ stream[1];
+}
+
+/* A file of the parts, with the sound in it. */
+static void write_known_file(void) {
+    struct model_trivium trivium;
+    memcpy(known_ring, noise(sizeof known_ring), sizeof known_ring);
+    model_trivium_load(&trivium, known_ring + 10 * parts.key_number, parts.value);
+    model_trivium_warm_up(&trivium);
+    for (size_t i = 0; i < 2 * parts.samples; i++) keystream[i] = model_trivium_next_byte(&trivium);
+    write_file();
+    for (size_t i = 0; i < parts.samples; i++) put_word(i, (uint16_t)sound[i]);
+}
+
+/* The samples of the file are its words, but for the lowest. */
+static void open_known_file(void) {
+    plan_number(0);
+    open_file(run_of(known_ring, sizeof known_ring), enough(parts.samples), enough(7));
+    for (size_t i = 0; i < parts.samples; i++) {
+        unsigned word = word_at(i), told = (uint16_t)sound[i];
+        if (word == LOWEST_WORD) times_read_at[stand_of(i, parts.samples)]++;
+        if (told != (word == LOWEST_WORD ? WORD_ABOVE : word)) differ("a plain word of %04X opens as %04X", word, told);
+    }
+}
+
+/* Seals what was opened, with all that the file says of itself. */
+static void seal_opened(void) {
+    uint32_t loops[2 * SEMIVRAKH_LOOPS_MOST];
+    plan_number(0);
+    compare_pack_loops(lent_file(), room(2 * SEMIVRAKH_LOOPS_MOST));
+    memcpy(loops, after(1), sizeof loops);
+    struct sealing sealing = {
+        .name = run_of(file + opened[SEMIVRAKH_OPENED_NAME_AT], opened[SEMIVRAKH_OPENED_NAME_LENGTH]),
+        .ring = run_of(known_ring, sizeof known_ring),
+        .key_number = (uint8_t)opened[SEMIVRAKH_OPENED_KEY],
+        .value = run_of(file + opened[SEMIVRAKH_OPENED_VALUE_AT], 10),
+        .samples = run_of(sound, opened[SEMIVRAKH_OPENED_SAMPLES]),
+        .loops = run_of(loops, *(const size_t *)after(2)),
+        .output = room(enough(file_length)),
+    };
+    plan_number(0);
+    compare_pack_seal(&sealing);
+}
+
+static bool is_file(const void *bytes, size_t length) {
+    return length == file_length && memcmp(bytes, file, length) == 0;
+}
+
+/* Makes each plain word of 80 00 the word above. Answers how many there were. */
+static size_t raise_words(void) {
+    size_t raised = 0;
+    for (size_t i = 0; i < parts.samples; i++) {
+        if (word_at(i) != LOWEST_WORD) continue;
+        put_word(i, WORD_ABOVE);
+        raised++;
+    }
+    return raised;
+}
+
+/* Opens the known file and seals it again. It comes back exactly if no plain word was 80 00, and otherwise with these
+ * raised and nothing else changed. Leaves the file as it came back. */
+static void there_and_back(void) {
+    open_known_file();
+    seal_opened();
+    const void *back = after(SEALED_OUTPUT);
+    size_t length = *(const size_t *)after(SEALED_LENGTH);
+    bool same = is_file(back, length);
+    size_t raised = raise_words();
+    if (same != (raised == 0)) {
+        differ("a pack with %zu words of 80 00, opened and sealed again, is %s", raised, same ? "the same" : "another");
+    }
+    if (!is_file(back, length)) differ("a pack, opened and sealed again, has more changed than its words of 80 00");
+    if (same) times_same++;
+    else times_raised++;
+}
+
+/* A word of 80 00 at no place, at each, at all, and at some. What came back comes back as it is. */
+static void open_lowest_words(void) {
+    choose_parts(random_below(6), random_between(1, SMALL_MOST), random_below(4));
+    choose_sound();
+    write_known_file();
+    there_and_back();
+    for (size_t place = 0; place < parts.samples; place++) {
+        unsigned other = word_at(place);
+        put_word(place, LOWEST_WORD);
+        there_and_back();
+        put_word(place, other);
+    }
+    for (uint32_t apart = 1; apart <= 3; apart++) {
+        for (size_t place = 0; place < parts.samples; place++) {
+            if (random_once_in(apart)) put_word(place, LOWEST_WORD);
+        }
+        there_and_back();
+        there_and_back();
+    }
+}
+
+void opening_lowest_words(void) {
+    for (int packs = 0; packs < 4; packs++) open_lowest_words();
+}
+
+/* Prints how often it was so at each place, and answers if it was at least so many times. */
+static bool stands_often_enough(const char *what, const uint64_t times[STANDS], uint64_t each) {
+    bool enough = true;
+    printf("%-15s place", what);
+    for (size_t i = 0; i < EIGHT; i++) printf(" %zu:%" PRIu64, i, times[i]);
+    printf(" in the rest:%" PRIu64 "\n", times[IN_REST]);
+    for (size_t i = 0; i < STANDS; i++) {
+        if (times[i] >= each) continue;
+        printf("FAILED: %s at place %zu only %" PRIu64 " times\n", what, i, times[i]);
+        enough = false;
+    }
+    return enough;
+}
+
+bool lowest_often_enough(uint64_t each) {
+    bool enough = stands_often_enough("-32768 refused", times_refused_at, each);
+    enough &= stands_often_enough("80 00 opened", times_read_at, each);
+    printf("sealed again    the same:%" PRIu64 " with 80 01 for 80 00:%" PRIu64 "\n", times_same, times_raised);
+    if (times_same >= each && times_raised >= each) return enough;
+    printf("FAILED: a pack was not opened and sealed again often enough\n");
+    return false;
+}
+
+/* The pack of a large sound with one lowest word and with none, and the sound with one lowest sample. */
+static void large_lowest(size_t count) {
+    seal_lowest_at(random_below((uint32_t)count), count, 0);
+    choose_sound();
+    write_known_file();
+    put_word(some_place(), LOWEST_WORD);
+    there_and_back();
+    there_and_back();
+}
+
 /* The cipher's chunks inside are no rule of the paper, so sizes around powers of two come too. */
 void large_packs(void) {
     static const uint32_t sizes[] = {127, 128, 129, 255, 256, 257, 511, 512, 513, 1000};
@@ -427,6 +654,7 @@ void large_packs(void) {
     seal_shape(random_below(33), samples, random_below(9));
     read_with_one_change();
     for (int i = 0; !largest && i < 5; i++) read_with_one_change();
+    large_lowest(samples);
 }
 
 /* Packs of any size, none of their pieces empty, cut in each piece. */

@@ -34,9 +34,11 @@ struct model_rules model_rules = {
         [MODEL_CUT_IN_KEY] = 31,
         [MODEL_CUT_IN_SAMPLES] = 32,
         [MODEL_CUT_IN_LOOPS] = 33,
+        [MODEL_LOWEST_SAMPLE] = 34,
         [MODEL_OTHER_LENGTH] = 36,
     },
     .lacks_besides = 0,
+    .lowest_opened = -32767,
 };
 
 uint8_t model_no(enum model_reason reason) {

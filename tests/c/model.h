@@ -37,6 +37,7 @@ enum model_reason {
     MODEL_CUT_IN_KEY,
     MODEL_CUT_IN_SAMPLES,
     MODEL_CUT_IN_LOOPS,
+    MODEL_LOWEST_SAMPLE,
     MODEL_OTHER_LENGTH,
     MODEL_REASONS
 };
@@ -53,6 +54,7 @@ struct model_rules {
     struct model_taps taps[MODEL_REGISTERS];
     uint8_t number[MODEL_REASONS];
     size_t lacks_besides; /* what a cut file lacks besides the bytes of the count or body that it ends in */
+    int lowest_opened;    /* the lowest sample that opening writes */
 };
 
 extern struct model_rules model_rules;

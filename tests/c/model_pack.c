@@ -140,9 +140,14 @@ static void start_cipher(struct model_trivium *trivium, const uint8_t *ring, siz
 }
 
 /* Two plain bytes as a signed word: from 32,768 on, the numbers below zero. */
-static int16_t signed_word(unsigned high, unsigned low) {
+static int signed_word(unsigned high, unsigned low) {
     int word = (int)(256 * high + low);
-    return (int16_t)(word >= 32768 ? word - 65536 : word);
+    return word >= 32768 ? word - 65536 : word;
+}
+
+/* What is put out is negated, and the lowest word has no opposite: it is read as the next one. */
+static int16_t sample_of(int word) {
+    return (int16_t)(word < model_rules.lowest_opened ? model_rules.lowest_opened : word);
 }
 
 uint8_t model_pack_open(const uint8_t *file, size_t file_length,
@@ -163,7 +168,7 @@ uint8_t model_pack_open(const uint8_t *file, size_t file_length,
     for (size_t i = 0; i < count; i++) {
         unsigned high = pack.enciphered[2 * i] ^ model_trivium_next_byte(&trivium);
         unsigned low = pack.enciphered[2 * i + 1] ^ model_trivium_next_byte(&trivium);
-        samples[i] = signed_word(high, low);
+        samples[i] = sample_of(signed_word(high, low));
     }
     return 0;
 }
@@ -171,6 +176,13 @@ uint8_t model_pack_open(const uint8_t *file, size_t file_length,
 static bool name_allowed(const uint8_t *name, size_t length) {
     for (size_t i = 0; i < length; i++) {
         if (!name_byte_allowed(name[i])) return false;
+    }
+    return true;
+}
+
+static bool samples_allowed(const int16_t *samples, size_t count) {
+    for (size_t i = 0; i < count; i++) {
+        if (samples[i] == -32768) return false;
     }
     return true;
 }
@@ -210,6 +222,7 @@ uint8_t model_pack_seal(const uint8_t *name, size_t name_length,
     if (value_length != 10) return model_no(MODEL_BAD_VALUE);
     if (key_number >= KEYS) return model_no(MODEL_BAD_KEY_NUMBER);
     if (sample_count > SEMIVRAKH_SAMPLES_MOST) return model_no(MODEL_MANY_SAMPLES);
+    if (!samples_allowed(samples, sample_count)) return model_no(MODEL_LOWEST_SAMPLE);
     if (loop_numbers > 2 * SEMIVRAKH_LOOPS_MOST || loop_numbers % 2 != 0) return model_no(MODEL_MANY_LOOPS);
     if (!loops_allowed(loops, loop_numbers, sample_count)) return model_no(MODEL_BAD_LOOP);
     size_t length = (1 + name_length) + (1 + KEY_COUNT) + (4 + 2 * sample_count) + (1 + 4 * loop_numbers);

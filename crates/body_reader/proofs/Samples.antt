@@ -1,27 +1,83 @@
--- Samples of deciphered bytes, one run behind the other: two bytes are a sample, so a run of even length can be
--- followed by another.
-use mathlib.Core.{Path._≡_, Path.sym, Path.ap, Path._∙_, List.List, List._++_}
-use Prim.Native.Nat.{ℕ, _+_, _*_, _/_, _%_, _≤_}
+-- What bytes make under a keystream, one run behind the other: two bytes are a sample, so a run of even length can be
+-- followed by another. What was stored unturned is turned: a number's two bytes are those that it was made of.
+use mathlib.Core.{Path._≡_, Path.sym, Path.ap, Path.ap₂, Path._∙_, List.List, List.[], List._∷_, List._++_, List.map}
+use Prim.Native.Nat.{ℕ, _+_, _*_, _/_, _%_, _^_, _<_, _≤_}
 use native.Mathlib.Omega.{arith}
-use lib.{IntN.ℤ, ListN.length}
-use Rattle.octets.specs.{Buffers.put, Stream.Keystream, Stream.enciphered}
-use Rattle.octets.proofs.Streams.{length-enciphered, read-on}
-use Rattle.samples.specs.Words.{wordsOf}
-use Rattle.samples.proofs.Words.{length-words, words-append}
+use lib.{IntN.ℤ, ListN.length, Pow.shr-shr}
+use Rattle.octets.specs.{Buffers.put, Digits.numberAfter, Digits.digits, Stream.Keystream, Stream.enciphered}
+use Rattle.octets.proofs.{Numbers.Below, Streams.OfBytes, Streams.length-enciphered, Streams.below-enciphered}
+use Rattle.octets.proofs.Streams.{read-on}
+use Rattle.samples.specs.Words.{signed, plainWord, wordOf, swapped, byTwos, wordsOf}
+use Rattle.samples.proofs.{Reversed.swapped-digits, Words.unsigned-signed, Words.word-small}
+use Rattle.samples.proofs.Words.{length-twos, twos-append, twos-map}
 use Rattle.trivium.specs.{Keystream.keystream, Registers.State, Registers.steps}
 use Rattle.trivium.proofs.Bytes.{keystream-from}
+use Rattle.body_reader.specs.Unturned.{lowFirst, unturned, turned}
 
-pub length-read : (k : Keystream) (bytes : List ℕ) → length (wordsOf (enciphered k bytes)) ≡ length bytes / 2
-length-read k bytes = length-words (enciphered k bytes) ∙ ap (λ (n : ℕ). n / 2) (length-enciphered k bytes)
+module _ (make : ℕ → ℕ → ℤ) where
+  pub length-read : (k : Keystream) (bytes : List ℕ) → length (byTwos make (enciphered k bytes)) ≡ length bytes / 2
+  length-read k bytes = length-twos make (enciphered k bytes) ∙ ap (λ (n : ℕ). n / 2) (length-enciphered k bytes)
 
--- registers that have gone past xs go on with ys
-pub samples-on : (s now : State) (xs ys : List ℕ) (d : List ℤ) (place : ℕ) {e : List ℤ} {next : ℕ} → length xs % 2 ≡ 0
-    → now ≡ steps (8 * length xs) s → e ≡ put d place (wordsOf (enciphered (keystream s) xs))
-    → next ≡ place + length xs / 2
-    → next + length ys / 2 ≤ length d
-    → put e next (wordsOf (enciphered (keystream now) ys)) ≡ put d place (wordsOf (enciphered (keystream s) (xs ++ ys)))
-samples-on s now xs ys d place even gone done there room =
-    let front = length-read (keystream s) xs in
-    let behind = length-read (keystream now) ys in
-    read-on wordsOf (keystream s) xs ys d place (λ us vs e. words-append (length xs / 2) us vs (omega arith))
-    (ap keystream gone ∙ sym (keystream-from (length xs) s)) done (omega arith) (omega arith)
+  -- registers that have gone past xs go on with ys
+  pub samples-on : (s now : State) (xs ys : List ℕ) (d : List ℤ) (place : ℕ) {e : List ℤ} {next : ℕ}
+      → length xs % 2 ≡ 0
+      → now ≡ steps (8 * length xs) s → e ≡ put d place (byTwos make (enciphered (keystream s) xs))
+      → next ≡ place + length xs / 2
+      → next + length ys / 2 ≤ length d
+      → put e next (byTwos make (enciphered (keystream now) ys))
+      ≡ put d place (byTwos make (enciphered (keystream s) (xs ++ ys)))
+  samples-on s now xs ys d place even gone done there room =
+      let front = length-read (keystream s) xs in
+      let behind = length-read (keystream now) ys in
+      read-on (byTwos make) (keystream s) xs ys d place
+      (λ us vs e. twos-append make (length xs / 2) us vs (omega arith))
+      (ap keystream gone ∙ sym (keystream-from (length xs) s)) done (omega arith) (omega arith)
+
+-- ---- four at once
+
+-- two bytes next to each other, the upper one last, are the 16 bits that begin where the first does
+two-bytes : (x k : ℕ) → x / 2 ^ k % 65536 ≡ (0 * 256 + x / 2 ^ (k + 8) % 256) * 256 + x / 2 ^ k % 256
+two-bytes x k =
+    split (x / 2 ^ k)
+    ∙ ap (λ (y : ℕ). (0 * 256 + y % 256) * 256 + x / 2 ^ k % 256) (shr-shr x k 8)
+  where
+    split : (y : ℕ) → y % 65536 ≡ (0 * 256 + y / 256 % 256) * 256 + y % 256
+    split y = omega arith
+
+-- the four numbers of a word, from the lowest on
+abbrev pub fourOf : ℕ → List ℤ
+fourOf x =
+    signed (x % 65536) ∷ signed (x / 2 ^ 16 % 65536) ∷ signed (x / 2 ^ 32 % 65536) ∷ signed (x / 2 ^ 48 % 65536) ∷ []
+
+pub four-unturned : (x : ℕ) → fourOf x ≡ unturned (digits 256 8 (swapped x))
+unfolding byTwos digits numberAfter
+four-unturned x =
+    ap (λ (n : ℕ). signed n ∷ signed (x / 2 ^ 16 % 65536) ∷ signed (x / 2 ^ 32 % 65536) ∷ signed
+    (x / 2 ^ 48 % 65536) ∷ []) (whole x)
+    ∙ (λ i. signed (two-bytes x 0 i) ∷ signed (two-bytes x 16 i) ∷ signed (two-bytes x 32 i) ∷ signed
+    (two-bytes x 48 i) ∷ [])
+    ∙ ap unturned (sym (swapped-digits x))
+  where
+    whole : (n : ℕ) → n % 65536 ≡ n / 1 % 65536
+    whole n = omega arith
+
+-- ---- turned
+
+-- the two bytes of a number that was made of two
+parted : (first second : ℕ) → first < 256 → second < 256 → turned (lowFirst first second) ≡ wordOf first second
+unfolding numberAfter
+parted first second h k =
+    ap (λ (n : ℕ). wordOf (n % 256) (n / 256))
+    (unsigned-signed (plainWord second first) (word-small second first k h))
+    ∙ ap₂ wordOf lower upper
+  where
+    lower : ((0 * 256 + second) * 256 + first) % 256 ≡ first
+    lower = omega arith
+
+    upper : ((0 * 256 + second) * 256 + first) / 256 ≡ second
+    upper = omega arith
+
+pub turned-samples : (k : Keystream) (bytes : List ℕ) → OfBytes k → Below 256 bytes
+    → map turned (unturned (enciphered k bytes)) ≡ wordsOf (enciphered k bytes)
+turned-samples k bytes h b =
+    twos-map lowFirst turned wordOf (enciphered k bytes) (below-enciphered k bytes h b) parted

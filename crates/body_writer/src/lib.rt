@@ -1,9 +1,9 @@
 // The body of a pack, apart from its faults: samples, written as enciphered bytes.
 ghost use mathlib.Core.Path.{_≡_};
-ghost use Prim.Native.Nat.{_+_, _*_, _-_, _%_, _≤_};
+ghost use Prim.Native.Nat.{_+_, _%_, _≤_};
 ghost use lib.ListN.{length, drop};
 ghost use Rattle.octets.specs.Buffers.{slice, put};
-ghost use Rattle.octets.specs.Digits.{number, digits};
+ghost use Rattle.octets.specs.Digits.{digits};
 ghost use Rattle.octets.specs.Stream.{enciphered};
 ghost use Rattle.samples.specs.Words.{swapped, bytesOfAll};
 ghost use Rattle.trivium.specs.Keystream.{keystream};
@@ -11,20 +11,6 @@ ghost use Rattle.trivium.specs.Record.{state};
 ghost use Rattle.trivium.specs.Registers.{steps};
 use trivium::Registers;
 use trivium::Running;
-
-// The word that the bytes of four samples from `from` make, the least significant first. The samples are put together
-// from the lowest on, for the compiler to load all four at once; then each pair of bytes is swapped.
-fn four_bits(samples: &[i16], from: usize) -> u64
-    requires { ⌜ from + 4 ≤ length (now samples) ⌝ }
-    ensures { λ r. ⌜ r ≡ swapped (number 256 (bytesOfAll (slice (now (samples .entry)) from 4))) ⌝ }
-{
-    let first = samples::bits(samples[from]) as u64;
-    let second = samples::bits(samples[from + 1]) as u64;
-    let third = samples::bits(samples[from + 2]) as u64;
-    let fourth = samples::bits(samples[from + 3]) as u64;
-    let four = fourth * 281474976710656 + third * 4294967296 + second * 65536 + first;
-    samples::swapped_in_pairs(four)
-}
 
 // The eight bytes of a word, the least significant first, at their place: the compiler stores them as they stand.
 fn put_word(output: &mut [u8], at: usize, word: u64)
@@ -41,56 +27,59 @@ fn put_word(output: &mut [u8], at: usize, word: u64)
     output[at + 7] = ((word >> 56) % 256) as u8;
 }
 
-// Eight samples from `from`, as bytes and enciphered, to their place, by two strides of the cipher: no byte is stored
-// between. In this order the compiler keeps the fewest values on the stack.
-fn write_chunk(
-    running: Running,
-    samples: &[i16],
-    output: &mut [u8],
-    from: usize,
-    at: usize,
-) -> Running
-    requires { ⌜ (from + 8 ≤ length (now samples)) × (at + 16 ≤ length (now output)) ⌝ }
+// Sixteen bytes from `at`, enciphered where they stand, by two strides of the cipher.
+fn cover_chunk(running: Running, body: &mut [u8], at: usize) -> Running
+    requires { ⌜ at + 16 ≤ length (now body) ⌝ }
     ensures { λ r. ⌜ (state (r .registers) ≡ steps 128 (state (running .registers)))
-        × (now (output .exit) ≡ put (now (output .entry)) at
-        (enciphered (keystream (state (running .registers))) (bytesOfAll (slice (now (samples .entry)) from 8)))) ⌝ }
+        × (now (body .exit) ≡ put (now (body .entry)) at
+        (enciphered (keystream (state (running .registers))) (slice (now (body .entry)) at 16))) ⌝ }
 {
     let one = running.stride();
     let two = one.next.stride();
-    let first = four_bits(samples, from);
-    let second = four_bits(samples, from + 4);
-    put_word(output, at, first ^ samples::swapped(one.word));
-    put_word(output, at + 8, second ^ samples::swapped(two.word));
+    let first = samples::eight_from(body, at);
+    let second = samples::eight_from(body, at + 8);
+    put_word(body, at, first ^ samples::swapped(one.word));
+    put_word(body, at + 8, second ^ samples::swapped(two.word));
     two.next
 }
 
-// Room for the bytes of the samples behind the last chunk. Its length is all that anybody needs to know of it.
+// Room for what is left behind the last chunk. Its length is all that anybody needs to know of it.
 fn blank() -> [u8; 16]
     ensures { λ r. ⌜ 16 ≡ length r ⌝ }
 {
     [0; 16]
 }
 
-// The samples from `from` behind the last chunk, as bytes and enciphered, to their place. They are counted as a
-// remainder, so that the compiler sees how few they are. The run stops as late as it can: sooner, and the compiler
-// moves a value more at each turn of the loop before.
-fn write_rest(running: Running, samples: &[i16], output: &mut [u8], from: usize, at: usize)
-    requires { ⌜ (from + length (now samples) % 8 ≡ length (now samples))
-        × (at + 2 * (length (now samples) - from) ≤ length (now output)) ⌝ }
-    ensures { λ _. ⌜ now (output .exit) ≡ put (now (output .entry)) at
-        (enciphered (keystream (state (running .registers))) (bytesOfAll (drop from (now (samples .entry))))) ⌝ }
+// The bytes from `at` behind the last chunk, enciphered where they stand. They are counted as a remainder, so that the
+// compiler sees how few they are.
+fn cover_rest(running: Running, body: &mut [u8], at: usize)
+    requires { ⌜ at + length (now body) % 16 ≡ length (now body) ⌝ }
+    ensures { λ _. ⌜ now (body .exit) ≡ put (now (body .entry)) at
+        (enciphered (keystream (state (running .registers))) (drop at (now (body .entry)))) ⌝ }
 {
     let mut chunk = blank();
-    let count = samples.len() % 8;
-    let end = from + count;
-    sample_runs::write_words(&samples[from..end], &mut chunk);
-    let rest = octets::slice(&chunk, 0, 2 * count);
+    let size = body.len() % 16;
+    octet_writer::copy(&mut chunk, 0, octets::slice(body, at, size));
     let registers = running.stop();
-    registers.encipher(rest, &mut output[at..]);
+    registers.encipher(octets::slice(&chunk, 0, size), &mut body[at..]);
 }
 
-// All samples, as bytes and enciphered, from `at`, if they have room there. What is done is counted in bytes: one index
-// serves both runs.
+// Bytes enciphered where they stand.
+fn cover(registers: Registers, body: &mut [u8])
+    ensures { λ _. ⌜ now (body .exit) ≡ enciphered (keystream (state registers)) (now (body .entry)) ⌝ }
+{
+    let n = body.len();
+    let mut running = Running::of(registers);
+    let mut at = 0;
+    while at + 16 <= n {
+        running = cover_chunk(running, body, at);
+        at += 16;
+    }
+    cover_rest(running, body, at);
+}
+
+// All samples, as bytes and enciphered, from `at`, if they have room there. As bytes they are written all at once,
+// which the compiler does eight at a time, and then enciphered.
 pub fn write_samples(registers: Registers, samples: &[i16], output: &mut [u8], at: usize)
     ensures { λ _. ⌜ now (output .exit)
         ≡ put (now (output .entry)) at (enciphered (keystream (state registers)) (bytesOfAll (now (samples .entry)))) ⌝ }
@@ -102,11 +91,7 @@ pub fn write_samples(registers: Registers, samples: &[i16], output: &mut [u8], a
     if output.len() - at < n {
         return;
     }
-    let mut running = Running::of(registers);
-    let mut done = 0;
-    while done + 16 <= n {
-        running = write_chunk(running, samples, output, done / 2, at + done);
-        done += 16;
-    }
-    write_rest(running, samples, output, done / 2, at + done);
+    sample_runs::write_words(samples, &mut output[at..]);
+    let end = at + n;
+    cover(registers, &mut output[at..end]);
 }

@@ -8,7 +8,8 @@ use native.Mathlib.{Nat.zero-add, Nat.add-assoc, Numerals.add-one, Omega.arith}
 use borrow.Author.Tests.{le-leb, lt-leb, leb-true}
 use lib.Dec.{leb}
 use lib.ListN.{length, getD, set, take, drop, length-append, length-take, length-drop, drop-of-length-le}
-use lib.Seq.{drop-length, take-at, drop-at, drop-drop, take-all, sets, sets-eq, paste, paste-zero, paste-suc}
+use lib.Seq.{drop-length, drop-cons, take-at, drop-at, getD-at, drop-drop, take-all, sets, sets-eq, paste, paste-zero}
+use lib.Seq.{paste-suc}
 use Rattle.octets.specs.Buffers.{slice, placed, put}
 
 module _ {A : Type 0} where
@@ -103,6 +104,22 @@ module _ {A : Type 0} where
   drop-placed d run h =
       drop-at run (drop (0 + length run) d) (length run) refl ∙ ap (λ (n : ℕ). drop n d) (zero-add (length run))
 
+  -- a run put over another of its length
+  pub put-over : (d : List A) (at : ℕ) (xs ys : List A) → length xs ≡ length ys → at + length ys ≤ length d
+      → put (put d at xs) at ys ≡ put d at ys
+  unfolding placed
+  put-over d at xs ys same room =
+      let n : ℕ = at + length xs in
+      let before : length (take at d) ≡ at = simp length-take (omega arith) in
+      let front : length (take at d ++ xs) ≡ at + length ys = simp length-append (omega arith) in
+      let there = length-put d at xs in
+      put-placed (put d at xs) at ys (omega arith)
+      ∙ ap (λ (l : List A). placed l at ys) (put-placed d at xs (omega arith))
+      ∙ ap₂ (λ (l r : List A). l ++ ys ++ r)
+      (ap (take at) (append-assoc (take at d) xs (drop n d)) ∙ take-at (take at d) (xs ++ drop n d) at before)
+      (drop-at (take at d ++ xs) (drop n d) (at + length ys) front ∙ ap (λ (m : ℕ). drop (at + m) d) same)
+      ∙ sym (put-placed d at ys room)
+
   -- two runs at the front are the second placed behind the first
   pub placed-cut : (d xs ys : List A) → length xs + length ys ≤ length d
       → placed d 0 (xs ++ ys) ≡ xs ++ placed (drop (length xs) d) 0 ys
@@ -139,6 +156,14 @@ module _ {A : Type 0} where
       ∙ sym (put-placed d at run h)
 
   -- ---- element after element
+
+  -- what such a loop has not reached is as it was
+  pub paste-ahead : (d run : List A) (i : ℕ) (z : A) → i < length d → i ≤ length run
+      → getD (paste d 0 run i) i z ≡ getD d i z
+  paste-ahead d run i z room h =
+      ap (λ (l : List A). getD (take i run ++ l) i z)
+      (ap (λ (n : ℕ). drop n d) (zero-add i) ∙ drop-cons d i z room)
+      ∙ getD-at (take i run) (getD d i z) (drop (suc i) d) z i (simp length-take (omega arith))
 
   -- one turn of a loop that writes a run
   pub paste-more : (d : List A) (at : ℕ) (run : List A) (i : ℕ) (z : A) → at + i < length d → i < length run

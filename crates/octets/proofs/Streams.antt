@@ -51,10 +51,6 @@ enciphered-same k l (x ∷ xs) e =
     ap₂ (λ (y : ℕ) (zs : List ℕ). bitXor x y ∷ zs) (e 0 (omega arith))
     (enciphered-same (from 1 k) (from 1 l) xs (λ i h. e (1 + i) (omega arith)))
 
-pub enciphered-nothing : (k : Keystream) → enciphered k [] ≡ []
-unfolding enciphered
-enciphered-nothing k = refl
-
 -- ---- a number's bytes, enciphered all at once
 
 pub power-of-bytes : (n : ℕ) → 256 ^ n ≡ 2 ^ (8 * n)

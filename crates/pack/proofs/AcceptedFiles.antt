@@ -1,8 +1,8 @@
--- An accepted file is the layout of its parts: each section, read and written again, is the section, and the sections
--- follow one another.
+-- An accepted file is laid out from its parts and its plain bytes: each section, read and written again, is the
+-- section, and the sections follow one another.
 use Prim.Native.Nat.{ℕ, suc, _+_, _*_, _/_}
 use mathlib.Core.List.{List, [], _∷_, _++_, append-assoc}
-use mathlib.Core.Path.{_≡_, sym, ap, ap₂, _∙_}
+use mathlib.Core.Path.{_≡_, refl, sym, ap, ap₂, _∙_}
 use native.Mathlib.Omega.{arith}
 use lib.{ListN.length, ListN.drop, ListN.length-drop, Seq.take-all}
 use Rattle.octets.specs.{Buffers.slice, Digits.numberAt}
@@ -12,13 +12,14 @@ use Rattle.octets.proofs.Rows.{row-back, many-read, length-equal}
 use Rattle.octets.proofs.Slices.{length-slice, slice-rest, element-rest}
 use Rattle.octets.proofs.Streams.{OfBytes, below-enciphered, length-enciphered, enciphered-twice}
 use Rattle.refusals.specs.Rules.{AllRight}
-use Rattle.samples.specs.Words.{wordsOf, bytesOfAll}
-use Rattle.samples.proofs.Words.{length-words, bytes-of-words, words-fit}
+use Rattle.samples.specs.Words.{wordOf, wordsOf}
+use Rattle.samples.proofs.Words.{length-twos, words-good}
 use Rattle.pack.specs.Faults.{loopSectionFaults, faultsFromSamples, faultsFromKey, fileFaults}
-use Rattle.pack.specs.Layout.{Parts, Within, loopsGood, fours, keyNamed, layout, nameSection, keySection}
-use Rattle.pack.specs.Layout.{sampleSection}
+use Rattle.pack.specs.Layout.{Parts, Within, loopsGood, fours, keyNamed, nameSection, keySection}
+use Rattle.pack.specs.Layout.{sampleSection, laid, LaidFrom}
 use Rattle.pack.specs.Places.{byteAt, nameCount, keyPlace, keyNumber, valuePlace, samplePlace, sampleCount}
-use Rattle.pack.specs.Places.{bodyPlace, loopPlace, loopCount, loopsPlace, partsOf}
+use Rattle.pack.specs.Places.{bodyPlace, loopPlace, loopCount, loopsPlace, plainOf, partsOf}
+use Rattle.pack.proofs.Samples.{all-good}
 
 -- the rules of each section stand behind those of the section before it
 module _ (cipher : Cipher) (file : List ℕ) (right : AllRight (fileFaults cipher file)) where
@@ -58,34 +59,26 @@ key-again cipher file at right =
     next : at + 2 ≡ at + 1 + 1
     next = omega arith
 
--- so many samples as are counted, and their bytes
-module _ (n : ℕ) (k : Keystream) (body : List ℕ) (size : length body ≡ 2 * n) where
-  counted : length (wordsOf (enciphered k body)) ≡ n
-  counted = length-words (enciphered k body) ∙ ap (λ (m : ℕ). m / 2) (length-enciphered k body ∙ size) ∙ half
-    where
-      half : 2 * n / 2 ≡ n
-      half = omega arith
+-- so many samples are read from a body as are counted
+counted : (n : ℕ) (k : Keystream) (body : List ℕ) → length body ≡ 2 * n → length (wordsOf (enciphered k body)) ≡ n
+counted n k body size =
+    length-twos wordOf (enciphered k body) ∙ ap (λ (m : ℕ). m / 2) (length-enciphered k body ∙ size) ∙ half
+  where
+    half : 2 * n / 2 ≡ n
+    half = omega arith
 
-  body-again : OfBytes k → Below 256 body → enciphered k (bytesOfAll (wordsOf (enciphered k body))) ≡ body
-  body-again h b =
-      ap (enciphered k)
-      (bytes-of-words n (enciphered k body) (length-enciphered k body ∙ size) (below-enciphered k body h b))
-      ∙ enciphered-twice k body
-
-sample-again : (file : List ℕ) (at : ℕ) (k : Keystream) → OfBytes k → Below 256 file
-    → AllRight (faultsFromSamples file at)
+sample-again : (file : List ℕ) (at : ℕ) (k : Keystream) → Below 256 file → AllRight (faultsFromSamples file at)
     → let n = numberAt file at 4 in
-    let samples = wordsOf (enciphered k (slice file (at + 4) (2 * n))) in
-    (row (fours 1) (length samples ∷ []) ++ enciphered k (bytesOfAll samples)) ++ drop (at + 4 + 2 * n) file
-    ≡ drop at file
+    let plain = enciphered k (slice file (at + 4) (2 * n)) in
+    (row (fours 1) (length (wordsOf plain) ∷ []) ++ enciphered k plain) ++ drop (at + 4 + 2 * n) file ≡ drop at file
 unfolding faultsFromSamples numbersAt
-sample-again file at k h b right =
+sample-again file at k b right =
     let n : ℕ = numberAt file at 4 in
     let body : List ℕ = slice file (at + 4) (2 * n) in
     let size : length body ≡ 2 * n = length-slice file (at + 4) (2 * n) (omega arith) in
     ap₂ (λ (xs ys : List ℕ). (xs ++ ys) ++ drop (at + 4 + 2 * n) file)
     (ap (λ (m : ℕ). row (fours 1) (m ∷ [])) (counted n k body size) ∙ row-back (fours 1) file at (omega arith) b)
-    (body-again n k body size h (below-slice file (at + 4) (2 * n) b))
+    (enciphered-twice k body)
     ∙ append-assoc (slice file at 4) body (drop (at + 4 + 2 * n) file)
     ∙ ap (λ (l : List ℕ). slice file at 4 ++ l) (slice-rest file (at + 4) (2 * n))
     ∙ slice-rest file at 4
@@ -113,26 +106,44 @@ module _ (cipher : Cipher) (ring : List (List ℕ)) (file : List ℕ) (right : A
   abbrev stream : Keystream
   stream = cipher .stream (keyNamed ring (keyNumber file)) (slice file (valuePlace file) (cipher .valueBytes))
 
+  -- the enciphered body, and how long it is
+  abbrev body : List ℕ
+  body = slice file (bodyPlace cipher file) (2 * sampleCount cipher file)
+
+  body-size : length body ≡ 2 * sampleCount cipher file
+  unfolding faultsFromSamples
+  body-size =
+      length-slice file (bodyPlace cipher file) (2 * sampleCount cipher file) (sample-right cipher file right .1 .1 .0)
+
   -- as many samples are read as are counted
   pub samples-counted : length (partsOf cipher ring file .samples) ≡ sampleCount cipher file
-  unfolding partsOf faultsFromSamples
-  samples-counted =
-      let n : ℕ = sampleCount cipher file in
-      counted n stream (slice file (bodyPlace cipher file) (2 * n))
-      (length-slice file (bodyPlace cipher file) (2 * n) (sample-right cipher file right .1 .1 .0))
+  unfolding partsOf
+  samples-counted = counted (sampleCount cipher file) stream body body-size
 
   module _ (b : Below 256 file) where
-    pub laid-again : OfBytes stream → layout cipher ring (partsOf cipher ring file) ≡ file
-    unfolding layout partsOf
-    laid-again h =
+    laid-again : file ≡ laid cipher ring (partsOf cipher ring file) (plainOf cipher ring file)
+    unfolding partsOf plainOf
+    laid-again =
         let p : Parts = partsOf cipher ring file in
-        let plain : List ℕ = bytesOfAll (p .samples) in
-        ap (λ (l : List ℕ). nameSection p ++ (keySection cipher p ++ (sampleSection cipher ring p plain ++ l)))
+        let plain : List ℕ = plainOf cipher ring file in
+        sym
+        (ap (λ (l : List ℕ). nameSection p ++ (keySection cipher p ++ (sampleSection cipher ring p plain ++ l)))
         (loop-again file (loopPlace cipher file) (sampleCount cipher file) b (loop-right cipher file right))
         ∙ ap (λ (l : List ℕ). nameSection p ++ (keySection cipher p ++ l))
-        (sample-again file (samplePlace cipher file) stream h b (sample-right cipher file right))
+        (sample-again file (samplePlace cipher file) stream b (sample-right cipher file right))
         ∙ ap (λ (l : List ℕ). nameSection p ++ l) (key-again cipher file (keyPlace file) (key-right cipher file right))
-        ∙ name-again cipher file right
+        ∙ name-again cipher file right)
+
+    pub laid-from : OfBytes stream → LaidFrom cipher ring (partsOf cipher ring file) (plainOf cipher ring file) file
+    unfolding partsOf plainOf
+    laid-from h =
+        record {
+          size = length-enciphered stream body ∙ body-size ∙ ap (λ (n : ℕ). 2 * n) (sym samples-counted);
+          bytes = below-enciphered stream body h
+              (below-slice file (bodyPlace cipher file) (2 * sampleCount cipher file) b);
+          read = refl;
+          is = laid-again;
+        }
 
     pub parts-within : Within cipher (partsOf cipher ring file)
     unfolding partsOf fileFaults faultsFromKey faultsFromSamples
@@ -147,7 +158,7 @@ module _ (cipher : Cipher) (ring : List (List ℕ)) (file : List ℕ) (right : A
           valueCount = length-slice file (valuePlace file) (cipher .valueBytes) (key .1 .1 .0);
           valueBytes = below-slice file (valuePlace file) (cipher .valueBytes) b;
           sampleCount = omega (arith, samples-counted);
-          sampleBits = words-fit _;
+          samples = all-good _ (words-good (enciphered stream body));
           loopCount = omega (arith, many-read 4 (2 * loopCount cipher file) file (loopsPlace cipher file));
           loops = ap (λ (n : ℕ). loopsGood n (loopsIn file (loopPlace cipher file))) samples-counted ∙ loop .1 .1 .1 .0;
         }

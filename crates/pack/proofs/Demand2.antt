@@ -13,12 +13,13 @@ use Rattle.refusals.proofs.Settled.{settled-number}
 use Rattle.trivium.specs.Keystream.{trivium}
 use Rattle.pack.specs.{declared.Opened.Opened, declared.Sealed.Sealed}
 use Rattle.pack.specs.Calls.{acceptedOpening, openingPack, sealingPack}
-use Rattle.pack.specs.Demand2.{inHand, OpenedTo, Demand2}
+use Rattle.pack.specs.Demand2.{inHand, OpenedTo, sealedTo, Demand2}
 use Rattle.pack.specs.Faults.{faultsFromSamples, faultsFromKey, fileFaults, openFaults, sealFaults}
-use Rattle.pack.specs.Layout.{Parts, parts, Within, layout}
-use Rattle.pack.specs.Places.{nameCount, sampleCount, loopCount, loopsPlace, partsOf}
-use Rattle.pack.proofs.AcceptedFiles.{samples-counted, laid-again, parts-within}
-use Rattle.pack.proofs.Theorems.{within-sealed, opens, seals, sealed-opens, opened-seals, trivium-bytes}
+use Rattle.pack.specs.Layout.{Parts, parts, Within, LaidFrom, layout}
+use Rattle.pack.specs.Places.{nameCount, sampleCount, loopCount, loopsPlace, plainOf, partsOf}
+use Rattle.pack.proofs.AcceptedFiles.{samples-counted, laid-from, parts-within}
+use Rattle.pack.proofs.Theorems.{within-sealed, opens, seals, sealed-opens, opened-seals, same-size, same-if}
+use Rattle.pack.proofs.Theorems.{only-if, opener-accepts-exactly, survey-refusal, trivium-bytes}
 
 module _ (cipher : Cipher) (ring : List (List ℕ)) where
   -- the numbers that callers see are the first broken rules'
@@ -78,12 +79,19 @@ module _ (cipher : Cipher) (ring : List (List ℕ)) where
         }
 
   -- an accepted file has opened to the parts that it gives
-  opened-given : (file : List ℕ) (sound : List ℤ) → openingPack cipher ring file sound .answer .refusal ≡ accepted
+  pub opened-given : (file : List ℕ) (sound : List ℤ) → openingPack cipher ring file sound .answer .refusal ≡ accepted
       → OpenedTo cipher (partsOf cipher ring file) file sound (openingPack cipher ring file sound)
   opened-given file sound e =
       let both = opening-right file sound e in
       subst (OpenedTo cipher (partsOf cipher ring file) file sound) (sym (is-done file sound (both .0) (both .1)))
       (opened-to file sound (both .0) (both .1))
+
+-- two files of which sealing gives the same outcome are the same
+same-file : (xs ys output : List ℕ) → length xs ≤ length output → length ys ≤ length output
+    → sealedTo xs output ≡ sealedTo ys output → xs ≡ ys
+same-file xs ys output hx hy e =
+    sym (take-placed output xs hx) ∙ ap (λ (o : Outcome Sealed ℕ). take (o .answer .length) (o .buffer)) e
+    ∙ take-placed output ys hy
 
 pub demand2 : (cipher : Cipher) (ring : List (List ℕ))
     → ((key value : List ℕ) → OfBytes (cipher .stream key value)) → Demand2 cipher ring
@@ -91,11 +99,11 @@ demand2 cipher ring bytes =
     record {
       seals = λ p output w room. seals cipher ring p output (within-sealed cipher p _ _ w room);
       sealed =
-          λ p output sound values bits room e.
+          λ p output sound values room e.
           let s = sealingPack cipher ring p output in
           let file = take (s .answer .length) (s .buffer) in
           let back = sealed-opens cipher ring p output sound (sym (sealing-refusal cipher ring p output) ∙ e) values
-          bits room in
+          room in
           let taken : openingPack cipher ring file sound .answer .refusal ≡ accepted =
           ap (λ (o : Outcome Opened ℤ). o .answer .refusal) (back .0) in
           subst (λ (q : Parts). OpenedTo cipher q file sound (openingPack cipher ring file sound)) (back .1)
@@ -106,13 +114,27 @@ demand2 cipher ring bytes =
           let given = opened-given cipher ring file sound e in
           subst
           (λ (p : Parts). OpenedTo cipher p file sound (openingPack cipher ring file sound) × Within cipher p
-          × (file ≡ layout cipher ring p)) (sym (given .same))
-          (given, parts-within cipher ring file right b, sym (laid-again cipher ring file right b (bytes _ _)));
+          × LaidFrom cipher ring p (plainOf cipher ring file) file) (sym (given .same))
+          (given, parts-within cipher ring file right b, laid-from cipher ring file right b (bytes _ _));
       resealed =
           λ file output sound b room e.
-          let right = opening-right cipher ring file sound e .0 in
-          ap (λ (p : Parts). sealingPack cipher ring p output) (opened-given cipher ring file sound e .same)
-          ∙ opened-seals cipher ring bytes file output b (sym (all-right _ right)) room;
+          let right = sym (all-right _ (opening-right cipher ring file sound e .0)) in
+          let p = partsOf cipher ring file in
+          let again : sealingPack cipher ring (inHand cipher file (openingPack cipher ring file sound)) output
+          ≡ sealedTo (layout cipher ring p) output =
+          ap (λ (q : Parts). sealingPack cipher ring q output) (opened-given cipher ring file sound e .same)
+          ∙ opened-seals cipher ring bytes file b right output room in (
+            λ other.
+                again ∙ ap (λ (f : List ℕ). sealedTo f output) (same-if cipher ring bytes file b right other),
+            λ same.
+                only-if cipher ring bytes file b right
+                (same-file (layout cipher ring p) file output
+                (omega (arith, same-size cipher ring bytes file b right)) room (sym again ∙ same)),
+          );
+      accepts =
+          λ file b.
+          let exactly = opener-accepts-exactly cipher ring bytes file b in
+          (λ l. survey-refusal cipher file ∙ exactly .1 l, λ e. exactly .0 (sym (survey-refusal cipher file) ∙ e));
     }
 
 -- with the cipher of demand 1, the very one that the contracts of opener and sealer cite

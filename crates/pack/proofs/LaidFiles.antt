@@ -1,5 +1,5 @@
--- A layout of parts within their limits is accepted, and gives the parts back: each section stands where the counts
--- before it say.
+-- A file laid out from parts within their limits is accepted, and gives the parts back: each section stands where the
+-- counts before it say.
 use Prim.Native.Nat.{ℕ, suc, _+_, _*_, _/_, _^_}
 use mathlib.Core.Bool.{true}
 use mathlib.Core.List.{List, [], _∷_, _++_, append-assoc, append-nil}
@@ -14,24 +14,29 @@ use Rattle.octets.proofs.Rows.{length-row, length-equal, numbers-back, fits-equ
 use Rattle.octets.proofs.Streams.{length-enciphered, enciphered-twice}
 use Rattle.refusals.specs.Rules.{AllRight}
 use Rattle.samples.specs.Words.{wordsOf, bytesOfAll}
-use Rattle.samples.proofs.Words.{length-bytes, words-of-bytes}
+use Rattle.samples.proofs.Words.{length-bytes, bytes-below, words-of-bytes}
 use Rattle.pack.specs.Faults.{loopSectionFaults, faultsFromSamples, faultsFromKey, fileFaults}
-use Rattle.pack.specs.Layout.{Parts, Within, nameGood, loopsGood, fours, keyNamed, layout, keySection}
-use Rattle.pack.specs.Layout.{sampleSection, loopSection}
+use Rattle.pack.specs.Layout.{Parts, Within, nameGood, loopsGood, fours, keyNamed, keySection, sampleSection}
+use Rattle.pack.specs.Layout.{loopSection, laid, LaidFrom, layout}
 use Rattle.pack.specs.Places.{byteAt, nameCount, keyPlace, keyNumber, valuePlace, samplePlace, sampleCount}
 use Rattle.pack.specs.Places.{bodyPlace, loopPlace, loopCount, loopsPlace, partsOf}
-use Rattle.pack.proofs.Loops.{loops-small, loops-even}
+use Rattle.pack.proofs.{Loops.loops-small, Loops.loops-even, Samples.good-all}
 
 -- how long a file is
+pub length-laid : (cipher : Cipher) (ring : List (List ℕ)) (p : Parts) (plain : List ℕ)
+    → length plain ≡ 2 * length (p .samples)
+    → length (laid cipher ring p plain)
+    ≡ 8 + length (p .name) + length (p .value) + 2 * length (p .samples) + 4 * length (p .loops)
+length-laid cipher ring p plain size =
+    let body = length-enciphered (cipher .stream (keyNamed ring (p .keyNumber)) (p .value)) plain ∙ size in
+    let loops = length-row (fours (length (p .loops))) (p .loops) ∙ length-equal (length (p .loops)) 4 in
+    simp length-append (omega (arith, length-row (fours 1) (length (p .samples) ∷ [])))
+
 pub length-layout : (cipher : Cipher) (ring : List (List ℕ)) (p : Parts)
     → length (layout cipher ring p)
     ≡ 8 + length (p .name) + length (p .value) + 2 * length (p .samples) + 4 * length (p .loops)
 unfolding layout
-length-layout cipher ring p =
-    let k : Keystream = cipher .stream (keyNamed ring (p .keyNumber)) (p .value) in
-    let body = length-enciphered k (bytesOfAll (p .samples)) ∙ length-bytes (p .samples) in
-    let loops = length-row (fours (length (p .loops))) (p .loops) ∙ length-equal (length (p .loops)) 4 in
-    simp length-append (omega (arith, length-row (fours 1) (length (p .samples) ∷ [])))
+length-layout cipher ring p = length-laid cipher ring p (bytesOfAll (p .samples)) (length-bytes (p .samples))
 
 -- ---- what stands from a place on, to the end
 
@@ -66,27 +71,26 @@ tail-row {file} {at} widths numbers rest fits t =
 
 -- ---- each section where it stands: it gives back what was laid, and is right if what follows it is
 
-module _ (cipher : Cipher) (ring : List (List ℕ)) (p : Parts) (w : Within cipher p) (file : List ℕ)
-    (t : Tail file 0 (layout cipher ring p)) where
+module _ (cipher : Cipher) (ring : List (List ℕ)) (p : Parts) (w : Within cipher p) (plain : List ℕ)
+    (size : length plain ≡ 2 * length (p .samples)) (read : wordsOf plain ≡ p .samples) (file : List ℕ)
+    (t : Tail file 0 (laid cipher ring p plain)) where
   abbrev stream : Keystream
   stream = cipher .stream (keyNamed ring (p .keyNumber)) (p .value)
 
   abbrev body : List ℕ
-  body = enciphered stream (bytesOfAll (p .samples))
+  body = enciphered stream plain
 
   -- what is laid behind the name, and behind the key
   abbrev behindKey : List ℕ
-  behindKey = sampleSection cipher ring p (bytesOfAll (p .samples)) ++ loopSection p
+  behindKey = sampleSection cipher ring p plain ++ loopSection p
 
   abbrev behindName : List ℕ
   behindName = keySection cipher p ++ behindKey
 
   name-count : length (p .name) ≡ nameCount file
-  unfolding layout
   name-count = sym (tail-byte t)
 
   name-there : Tail file 1 (p .name ++ behindName)
-  unfolding layout
   name-there = tail-next (length (p .name) ∷ []) (p .name ++ behindName) 1 refl t
 
   name-laid : slice file 1 (nameCount file) ≡ p .name
@@ -137,9 +141,7 @@ module _ (cipher : Cipher) (ring : List (List ℕ)) (p : Parts) (w : Within ciph
       (length-row (fours 1) (length (p .samples) ∷ [])) count-there
 
   body-size : length body ≡ 2 * sampleCount cipher file
-  body-size =
-      length-enciphered stream (bytesOfAll (p .samples)) ∙ length-bytes (p .samples)
-      ∙ ap (λ (n : ℕ). 2 * n) (sym count-laid)
+  body-size = length-enciphered stream plain ∙ size ∙ ap (λ (n : ℕ). 2 * n) (sym count-laid)
 
   body-laid : slice file (bodyPlace cipher file) (2 * sampleCount cipher file) ≡ body
   body-laid = tail-run body (loopSection p) (2 * sampleCount cipher file) body-size body-there
@@ -190,12 +192,12 @@ module _ (cipher : Cipher) (ring : List (List ℕ)) (p : Parts) (w : Within ciph
   unfolding partsOf
   samples-laid =
       (λ i. wordsOf (enciphered (cipher .stream (keyNamed ring (number-laid i)) (value-laid i)) (body-laid i)))
-      ∙ ap wordsOf (enciphered-twice stream (bytesOfAll (p .samples)))
-      ∙ words-of-bytes (p .samples) (w .sampleBits)
+      ∙ ap wordsOf (enciphered-twice stream plain)
+      ∙ read
 
-  laid : AllRight (fileFaults cipher file) × (partsOf cipher ring file ≡ p)
+  given-back : AllRight (fileFaults cipher file) × (partsOf cipher ring file ≡ p)
   unfolding partsOf
-  laid = (
+  given-back = (
     name-right (key-right (sample-right loop-right)),
     λ i.
         record {
@@ -207,6 +209,21 @@ module _ (cipher : Cipher) (ring : List (List ℕ)) (p : Parts) (w : Within ciph
         },
   )
 
-pub layout-accepted : (cipher : Cipher) (ring : List (List ℕ)) (p : Parts) → Within cipher p
-    → AllRight (fileFaults cipher (layout cipher ring p)) × (partsOf cipher ring (layout cipher ring p) ≡ p)
-layout-accepted cipher ring p w = laid cipher ring p w (layout cipher ring p) (record { is = refl; room = omega arith })
+pub laid-accepted : (cipher : Cipher) (ring : List (List ℕ)) (p : Parts) (plain file : List ℕ) → Within cipher p
+    → LaidFrom cipher ring p plain file
+    → AllRight (fileFaults cipher file) × (partsOf cipher ring file ≡ p)
+laid-accepted cipher ring p plain file w l =
+    given-back cipher ring p w plain (l .size) (l .read) file
+    (record { is = l .is; room = omega (arith, ap length (l .is)) })
+
+-- what is sealed is laid out from the samples' own bytes
+pub layout-laid : (cipher : Cipher) (ring : List (List ℕ)) (p : Parts) → Within cipher p
+    → LaidFrom cipher ring p (bytesOfAll (p .samples)) (layout cipher ring p)
+unfolding layout
+layout-laid cipher ring p w =
+    record {
+      size = length-bytes (p .samples);
+      bytes = bytes-below (p .samples);
+      read = words-of-bytes (p .samples) (good-all (p .samples) (w .samples));
+      is = refl;
+    }

@@ -5,4 +5,6 @@ pub mod Growing
 pub mod LaidFiles
 pub mod LongFiles
 pub mod Loops
+pub mod Opposites
+pub mod Samples
 pub mod Theorems

@@ -5,11 +5,12 @@ use mathlib.Core.{Bool.Bool, Bool.true, Bool.false, List.List, List.[], List._�
 use Prim.Native.Nat.{ℕ, zero, suc, _+_, _*_, _<_, _≤_}
 use native.Mathlib.Omega.{arith}
 use borrow.Author.Tests.{le-leb, leb-true, leb-false}
-use lib.{Dec.leb, IntN.ℤ, IntN.pos, Seq.length-take-le, Seq.take-all, Signed.mag}
+use lib.{Dec.leb, IntN.ℤ, IntN.pos, Seq.length-take-le, Seq.take-all}
 use lib.ListN.{length, getD, take, drop, replicate, length-append, length-replicate, take-append-drop}
 use Rattle.refusals.specs.{Numbers.accepted, Outcome.outcome, Rules.AllRight, Rules.first, Rules.verdict}
 use Rattle.refusals.specs.declared.Verdict.{Verdict}
 use Rattle.refusals.proofs.Settled.{settled-left, first-here}
+use Rattle.samples.proofs.Words.{Good}
 use Rattle.trivium.specs.Keystream.{trivium}
 use Rattle.pack.specs.{Calls.refusedOpening, Calls.lacksOf, Calls.surveying, Calls.openingPack}
 use Rattle.pack.specs.Faults.{faultsFromSamples, faultsFromKey, fileFaults, openFaults}
@@ -17,8 +18,8 @@ use Rattle.pack.specs.Layout.{Parts, parts, Within, nameGood, loopsGood,
 use Rattle.pack.specs.Limits.{mostName, mostSamples, longestFile}
 use Rattle.pack.proofs.{AcceptedFiles.key-right, AcceptedFiles.sample-right, AcceptedFiles.loop-right}
 use Rattle.pack.proofs.Growing.{files-grown, parting, alike-beyond}
-use Rattle.pack.proofs.{LaidFiles.length-layout, Theorems.file-numbered, Theorems.file-right}
-use Rattle.pack.proofs.Theorems.{survey-refusal}
+use Rattle.pack.proofs.{LaidFiles.length-layout, Samples.all-good, Theorems.file-numbered}
+use Rattle.pack.proofs.Theorems.{file-right, survey-refusal}
 
 -- ---- how long a file can be
 
@@ -58,8 +59,7 @@ long-within count some most =
       valueCount = refl;
       valueBytes = λ i. equal-elements (λ (x : ℕ). x < 256) 10 i 0 0 (omega arith) (omega arith);
       sampleCount = omega arith;
-      sampleBits =
-          λ i. equal-elements (λ (z : ℤ). mag z < 32768) count i (pos 0) (pos 0) (omega arith) (omega arith);
+      samples = all-good _ (λ i. equal-elements Good count i (pos 0) (pos 0) (omega arith) (omega arith));
       loopCount = omega arith;
       loops = rw (counted, le-leb 1 count some);
     }

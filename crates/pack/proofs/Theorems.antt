@@ -1,29 +1,34 @@
--- The laws that Demand2.antt puts together: sealed parts open to themselves, an opened file seals to itself, and the
--- opener accepts exactly the layouts of parts within their limits, each from the laws of accepted and of laid files.
--- Then what refusals leave, and what a ring holds and makes.
+-- The laws that Demand2.antt puts together: sealed parts open to themselves, an opened file seals to itself exactly if
+-- no plain word is 80 00, and the opener accepts exactly what is laid out from parts within their limits, each from the
+-- laws of accepted and of laid files. Then what refusals leave, and what a ring holds and makes.
 use Prim.Native.Nat.{ℕ, _*_, _<_, _≤_}
-use mathlib.Core.{List.List, Path._≡_, Path.refl, Path.sym, Path.ap, Path.subst, Path._∙_}
+use mathlib.Core.List.{List, [], _∷_, _++_, append-assoc}
+use mathlib.Core.Path.{_≡_, refl, sym, ap, ap₂, subst, _∙_}
 use native.Mathlib.Omega.{arith}
-use lib.{Dec.T, IntN.ℤ, IntN.pos, ListN.length, ListN.getD, ListN.take, Signed.mag}
-use Rattle.octets.specs.{Buffers.placed, Stream.Cipher}
-use Rattle.octets.proofs.{Buffers.take-placed, Numbers.Below, Numbers.number-below, Streams.OfBytes}
+use lib.{Dec.T, IntN.ℤ, ListN.length, ListN.getD, ListN.take, Seq.take-at, Seq.drop-at}
+use Rattle.octets.specs.{Buffers.slice, Buffers.placed, Rows.row, Stream.Cipher, Stream.Keystream, Stream.enciphered}
+use Rattle.octets.proofs.{Buffers.take-placed, Numbers.Below}
+use Rattle.octets.proofs.Streams.{OfBytes, length-enciphered, enciphered-twice}
 use Rattle.refusals.specs.{Numbers.accepted, Outcome.Outcome, Outcome.outcome}
 use Rattle.refusals.specs.Rules.{AllRight, first, Leaves}
 use Rattle.refusals.proofs.Faults.{numbered, all-right, none-wrong, right-after}
 use Rattle.refusals.proofs.Settled.{done-if, settled-number, settled-leaves}
+use Rattle.samples.specs.Words.{wordsOf, NoLowest, bytesOfAll}
+use Rattle.samples.proofs.Words.{length-bytes, bytes-of-words, bytes-kept}
 use Rattle.trivium.specs.{Calls.refusedMaking, Record.state, Record.packed, declared.Made.Made}
 use Rattle.trivium.specs.{declared.Registers.Registers}
-use Rattle.trivium.specs.Keystream.{bits, keystream, trivium}
-use Rattle.trivium.specs.Registers.{State, steps, started}
-use Rattle.trivium.proofs.Steps.{length-bits, bits-below, state-started}
-use Rattle.pack.specs.{Limits.lastKey, Places.sampleCount, Places.partsOf, declared.Opened.Opened}
-use Rattle.pack.specs.{declared.Sealed.Sealed}
+use Rattle.trivium.specs.{Keystream.keystream, Keystream.trivium, Registers.started}
+use Rattle.trivium.proofs.{Bytes.keystream-bytes, Steps.state-started}
+use Rattle.pack.specs.{Demand2.sealedTo, Limits.lastKey, declared.Opened.Opened, declared.Sealed.Sealed}
 use Rattle.pack.specs.Calls.{refusedOpening, acceptedOpening, lacksOf, surveying, openingPack, sealingPack}
 use Rattle.pack.specs.Faults.{faultsFromSamples, faultsFromKey, fileFaults, openFaults, sealFaults}
-use Rattle.pack.specs.Layout.{Parts, Within, keyNamed, layout}
+use Rattle.pack.specs.Layout.{Parts, Within, fours, keyNamed, nameSection, keySection, loopSection, laid}
+use Rattle.pack.specs.Layout.{LaidFrom, layout}
+use Rattle.pack.specs.Places.{sampleCount, plainOf, partsOf}
 use Rattle.pack.specs.Ring.{keying}
-use Rattle.pack.proofs.{LaidFiles.layout-accepted, Loops.loops-even}
-use Rattle.pack.proofs.AcceptedFiles.{samples-counted, laid-again, parts-within}
+use Rattle.pack.proofs.LaidFiles.{length-laid, length-layout, laid-accepted, layout-laid}
+use Rattle.pack.proofs.{Loops.loops-even, AcceptedFiles.samples-counted, AcceptedFiles.laid-from}
+use Rattle.pack.proofs.AcceptedFiles.{parts-within}
 
 -- every number of a file's rules says no
 pub file-numbered : (cipher : Cipher) (file : List ℕ) → T (numbered (fileFaults cipher file))
@@ -46,15 +51,18 @@ within-sealed cipher p size room w h =
       w .nameCount,
       (
         w .nameBytes,
-        (w .valueCount, (w .keyNumber, (w .sampleCount, (w .loopCount, (omega arith, (w .loops, (h, tt))))))),
+        (
+          w .valueCount,
+          (w .keyNumber, (w .sampleCount, (w .samples, (w .loopCount, (omega arith, (w .loops, (h, tt))))))),
+        ),
       ),
     )
 
--- and nothing else, where bytes are bytes and samples have 16 bits
+-- and nothing else, where bytes are bytes
 sealed-within : (cipher : Cipher) (p : Parts) (size room : ℕ) → AllRight (sealFaults cipher p size room)
-    → ((i : ℕ) → getD (p .value) i 0 < 256) → ((i : ℕ) → mag (getD (p .samples) i (pos 0)) < 32768) → Within cipher p
+    → ((i : ℕ) → getD (p .value) i 0 < 256) → Within cipher p
 unfolding sealFaults
-sealed-within cipher p size room h values bits =
+sealed-within cipher p size room h values =
     record {
       nameCount = h .0;
       nameBytes = h .1 .0;
@@ -62,9 +70,9 @@ sealed-within cipher p size room h values bits =
       keyNumber = h .1 .1 .1 .0;
       valueBytes = values;
       sampleCount = h .1 .1 .1 .1 .0;
-      sampleBits = bits;
-      loopCount = h .1 .1 .1 .1 .1 .0;
-      loops = h .1 .1 .1 .1 .1 .1 .1 .0;
+      samples = h .1 .1 .1 .1 .1 .0;
+      loopCount = h .1 .1 .1 .1 .1 .1 .0;
+      loops = h .1 .1 .1 .1 .1 .1 .1 .1 .0;
     }
 
 module _ (cipher : Cipher) (ring : List (List ℕ)) where
@@ -84,26 +92,23 @@ module _ (cipher : Cipher) (ring : List (List ℕ)) where
   -- parts that aren't refused are sealed
   pub seals : (p : Parts) (output : List ℕ)
       → AllRight (sealFaults cipher p (length (layout cipher ring p)) (length output))
-      → sealingPack cipher ring p output
-      ≡ outcome (record { refusal = accepted; length = length (layout cipher ring p) })
-      (placed output 0 (layout cipher ring p))
+      → sealingPack cipher ring p output ≡ sealedTo (layout cipher ring p) output
   unfolding sealingPack
   seals p output right = sym (done-if _ _ _ right)
 
   pub sealed-opens : (p : Parts) (output : List ℕ) (sound : List ℤ)
       → first (sealFaults cipher p (length (layout cipher ring p)) (length output)) ≡ accepted
       → ((i : ℕ) → getD (p .value) i 0 < 256)
-      → ((i : ℕ) → mag (getD (p .samples) i (pos 0)) < 32768)
       → length (p .samples) ≤ length sound
       → let file = take (sealingPack cipher ring p output .answer .length) (sealingPack cipher ring p output .buffer) in
       (openingPack cipher ring file sound ≡ outcome (acceptedOpening cipher file) (placed sound 0 (p .samples)))
       × (partsOf cipher ring file ≡ p)
   unfolding sealFaults
-  sealed-opens p output sound e values bits room =
+  sealed-opens p output sound e values room =
       let file : List ℕ = layout cipher ring p in
       let right : AllRight (sealFaults cipher p (length file) (length output)) = none-wrong _ tt e in
-      let laid = layout-accepted cipher ring p
-      (sealed-within cipher p (length file) (length output) right values bits) in
+      let within = sealed-within cipher p (length file) (length output) right values in
+      let laid = laid-accepted cipher ring p (bytesOfAll (p .samples)) file within (layout-laid cipher ring p within) in
       let written : take (sealingPack cipher ring p output .answer .length) (sealingPack cipher ring p output .buffer)
       ≡ file =
       ap (λ (o : Outcome Sealed ℕ). take (o .answer .length) (o .buffer)) (seals p output right)
@@ -114,45 +119,93 @@ module _ (cipher : Cipher) (ring : List (List ℕ)) where
       × (partsOf cipher ring f ≡ p))
       (sym written) (opens file sound p (laid .0) (laid .1) room, laid .1)
 
+-- what is enciphered in a file can be told from the file
+module _ (cipher : Cipher) (ring : List (List ℕ)) (p : Parts) where
+  abbrev stream : Keystream
+  stream = cipher .stream (keyNamed ring (p .keyNumber)) (p .value)
+
+  abbrev front : List ℕ
+  front = nameSection p ++ (keySection cipher p ++ row (fours 1) (length (p .samples) ∷ []))
+
+  body-told : (plain : List ℕ)
+      → slice (laid cipher ring p plain) (length front) (length plain) ≡ enciphered stream plain
+  body-told plain =
+      let body : List ℕ = enciphered stream plain in
+      let cut : laid cipher ring p plain ≡ front ++ (body ++ loopSection p) = simp append-assoc in
+      ap (λ (l : List ℕ). slice l (length front) (length plain)) cut
+      ∙ ap (take (length plain)) (drop-at front (body ++ loopSection p) (length front) refl)
+      ∙ take-at body (loopSection p) (length plain) (length-enciphered stream plain)
+
+  plain-told : (xs ys : List ℕ) → length xs ≡ length ys → laid cipher ring p xs ≡ laid cipher ring p ys → xs ≡ ys
+  plain-told xs ys long same =
+      sym (enciphered-twice stream xs)
+      ∙ ap (enciphered stream)
+      (sym (body-told xs) ∙ ap₂ (λ (l : List ℕ) (n : ℕ). slice l (length front) n) same long ∙ body-told ys)
+      ∙ enciphered-twice stream ys
+
 -- what is said of every file asks that the keystreams' elements are bytes
 module _ (cipher : Cipher) (ring : List (List ℕ))
     (bytes : (key value : List ℕ) → OfBytes (cipher .stream key value)) where
-  pub opened-seals : (file output : List ℕ) → Below 256 file → first (fileFaults cipher file) ≡ accepted
-      → length file ≤ length output
-      → sealingPack cipher ring (partsOf cipher ring file) output
-      ≡ outcome (record { refusal = accepted; length = length file }) (placed output 0 file)
-  opened-seals file output b e room =
-      let p : Parts = partsOf cipher ring file in
-      let right = file-right cipher file e in
-      let same : layout cipher ring p ≡ file = laid-again cipher ring file right b (bytes _ _) in
-      seals cipher ring p output
-      (within-sealed cipher p (length (layout cipher ring p)) (length output) (parts-within cipher ring file right b)
-      (omega (arith, ap length same)))
-      ∙ ap (λ (l : List ℕ). outcome {A = Sealed} (record { refusal = accepted; length = length l })
-      (placed output 0 l)) same
+  module _ (file : List ℕ) (b : Below 256 file) (e : first (fileFaults cipher file) ≡ accepted) where
+    abbrev given : Parts
+    given = partsOf cipher ring file
+
+    abbrev plain : List ℕ
+    plain = plainOf cipher ring file
+
+    from : LaidFrom cipher ring given plain file
+    from = laid-from cipher ring file (file-right cipher file e) b (bytes _ _)
+
+    -- sealed again, it is as long as it was
+    pub same-size : length (layout cipher ring given) ≡ length file
+    same-size =
+        length-layout cipher ring given ∙ sym (length-laid cipher ring given plain (from .size))
+        ∙ ap length (sym (from .is))
+
+    pub opened-seals : (output : List ℕ) → length file ≤ length output
+        → sealingPack cipher ring given output ≡ sealedTo (layout cipher ring given) output
+    opened-seals output room =
+        seals cipher ring given output
+        (within-sealed cipher given _ _ (parts-within cipher ring file (file-right cipher file e) b)
+        (omega (arith, same-size)))
+
+    -- the bytes of the samples that were read are the plain bytes exactly if no word of them was 80 00
+    abbrev own : List ℕ
+    own = bytesOfAll (wordsOf plain)
+
+    is-own : layout cipher ring given ≡ laid cipher ring given own
+    unfolding layout
+    is-own = ap (λ (zs : List ℤ). laid cipher ring given (bytesOfAll zs)) (sym (from .read))
+
+    pub same-if : NoLowest plain → layout cipher ring given ≡ file
+    same-if other =
+        is-own
+        ∙ ap (laid cipher ring given) (bytes-of-words (length (given .samples)) plain (from .size) (from .bytes) other)
+        ∙ sym (from .is)
+
+    pub only-if : layout cipher ring given ≡ file → NoLowest plain
+    only-if same =
+        let long : length own ≡ length plain =
+        length-bytes (wordsOf plain) ∙ ap (λ (zs : List ℤ). 2 * length zs) (from .read) ∙ sym (from .size) in
+        bytes-kept plain (plain-told cipher ring given own plain long (sym is-own ∙ same ∙ from .is))
 
   -- The opener accepts exactly the files that are laid out from parts within their limits.
   pub opener-accepts-exactly : (file : List ℕ) → Below 256 file
-      → (first (fileFaults cipher file) ≡ accepted → (p : Parts) × Within cipher p × (file ≡ layout cipher ring p))
-      × (((p : Parts) × Within cipher p × (file ≡ layout cipher ring p)) → first (fileFaults cipher file) ≡ accepted)
+      → let fromParts = (p : Parts) × (plain : List ℕ) × Within cipher p × LaidFrom cipher ring p plain file in
+      (first (fileFaults cipher file) ≡ accepted → fromParts) × (fromParts → first (fileFaults cipher file) ≡ accepted)
   opener-accepts-exactly file b = (
-    λ e.
-        let right = file-right cipher file e in (
-          partsOf cipher ring file,
-          parts-within cipher ring file right b,
-          sym (laid-again cipher ring file right b (bytes _ _)),
-        ),
-    λ laid.
-        subst (λ (f : List ℕ). first (fileFaults cipher f) ≡ accepted) (sym (laid .2))
-        (sym (all-right _ (layout-accepted cipher ring (laid .0) (laid .1) .0))),
+    λ e. (
+      partsOf cipher ring file,
+      plainOf cipher ring file,
+      parts-within cipher ring file (file-right cipher file e) b,
+      from file b e,
+    ),
+    λ l. sym (all-right _ (laid-accepted cipher ring (l .0) (l .1) file (l .2) (l .3) .0)),
   )
 
--- Trivium's are
+-- Trivium's elements are
 pub trivium-bytes : (key value : List ℕ) → OfBytes (trivium .stream key value)
-unfolding keystream
-trivium-bytes key value n =
-    let s : State = steps (8 * n) (started key value) in
-    rw length-bits at (number-below 2 (bits 8 s) (bits-below 8 s))
+trivium-bytes key value = keystream-bytes (started key value)
 
 -- ---- a refused call leaves everything as given
 

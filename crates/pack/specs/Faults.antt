@@ -4,9 +4,10 @@ use mathlib.Core.List.{List, [], _∷_, _++_}
 use lib.ListN.{length}
 use Rattle.octets.specs.{Buffers.slice, Rows.numbersAt, Stream.Cipher}
 use Rattle.refusals.specs.Numbers.{badValue, noRoom, longName, badName, badKeyCount, badKeyNumber, manySamples}
-use Rattle.refusals.specs.Numbers.{manyLoops, badLoop, moreBytes, cutInName, cutInKey, cutInSamples, cutInLoops}
+use Rattle.refusals.specs.Numbers.{lowestSample, manyLoops, badLoop, moreBytes, cutInName, cutInKey, cutInSamples}
+use Rattle.refusals.specs.Numbers.{cutInLoops}
 use Rattle.refusals.specs.Rules.{_over_, _unlike_, _endsBefore_, unless, Fault, _says_}
-use Rattle.pack.specs.Layout.{Parts, nameGood, loopsGood, fours}
+use Rattle.pack.specs.Layout.{Parts, nameGood, samplesGood, loopsGood, fours}
 use Rattle.pack.specs.Limits.{mostName, lastKey, mostSamples, mostLoops}
 use Rattle.pack.specs.Places.{byteAt, nameEnd, keyEnd, samplesIn, samplesEnd, loopsEnd, sampleCount}
 
@@ -80,6 +81,7 @@ partFaults cipher p =
     ∷ (length (p .value) unlike cipher .valueBytes says badValue)
     ∷ (p .keyNumber over lastKey says badKeyNumber)
     ∷ (length (p .samples) over mostSamples says manySamples)
+    ∷ (unless (samplesGood (p .samples)) says lowestSample)
     ∷ (length (p .loops) over 2 * mostLoops says manyLoops)
     ∷ (length (p .loops) % 2 unlike 0 says manyLoops)
     ∷ (unless (loopsGood (length (p .samples)) (p .loops)) says badLoop)

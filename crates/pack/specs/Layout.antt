@@ -2,10 +2,10 @@
 -- byte first.
 use Prim.Native.Nat.{ℕ, suc, _*_, _/_, _<_, _≤_}
 use mathlib.Core.{Bool.Bool, Bool.true, Bool.false, Bool._&&_, List.List, List.[], List._∷_, List._++_, Path._≡_}
-use lib.{Dec.leb, Dec.ltb, IntN.ℤ, IntN.pos, ListN.length, ListN.getD, ListN.replicate, Signed.mag}
+use lib.{Dec.leb, Dec.ltb, IntN.ℤ, IntN.natAbs, ListN.length, ListN.getD, ListN.replicate}
 use Rattle.octets.specs.{Rows.row, Stream.Cipher, Stream.enciphered}
-use Rattle.pack.specs.Limits.{mostName, lastKey, mostSamples, mostLoops}
-use Rattle.samples.specs.Words.{bytesOfAll}
+use Rattle.pack.specs.Limits.{mostName, lastKey, mostSamples, highestSample, mostLoops}
+use Rattle.samples.specs.Words.{wordsOf, bytesOfAll}
 
 pub record Parts : Type 0 where
   pub name : List ℕ
@@ -25,6 +25,11 @@ unfoldable pub nameGood : List ℕ → Bool
 nameGood [] = true
 nameGood (x ∷ xs) = leb 32 x && leb x 126 && nameGood xs
 
+-- every sample has an opposite: it is -32767 to 32767
+unfoldable pub samplesGood : List ℤ → Bool
+samplesGood [] = true
+samplesGood (z ∷ zs) = leb (natAbs z) highestSample && samplesGood zs
+
 -- every loop's start is below its end, and its end at most the sample count
 unfoldable pub loopsGood : ℕ → List ℕ → Bool
 loopsGood count [] = true
@@ -39,7 +44,7 @@ pub record Within (cipher : Cipher) (p : Parts) : Type 0 where
   pub valueCount : length (p .value) ≡ cipher .valueBytes
   pub valueBytes : (i : ℕ) → getD (p .value) i 0 < 256
   pub sampleCount : length (p .samples) ≤ mostSamples
-  pub sampleBits : (i : ℕ) → mag (getD (p .samples) i (pos 0)) < 32768
+  pub samples : samplesGood (p .samples) ≡ true
   pub loopCount : length (p .loops) ≤ 2 * mostLoops
   pub loops : loopsGood (length (p .samples)) (p .loops) ≡ true
 
@@ -57,7 +62,7 @@ nameSection p = length (p .name) ∷ p .name
 abbrev pub keySection : Cipher → Parts → List ℕ
 keySection cipher p = suc (cipher .valueBytes) ∷ p .keyNumber ∷ p .value
 
--- `plain` is what is enciphered
+-- `plain` are the bytes that are enciphered
 abbrev pub sampleSection : Cipher → List (List ℕ) → Parts → List ℕ → List ℕ
 sampleSection cipher ring p plain =
     row (fours 1) (length (p .samples) ∷ [])
@@ -70,6 +75,14 @@ abbrev pub laid : Cipher → List (List ℕ) → Parts → List ℕ → List ℕ
 laid cipher ring p plain =
     nameSection p ++ (keySection cipher p ++ (sampleSection cipher ring p plain ++ loopSection p))
 
--- a pack: what is enciphered is its samples' bytes
+-- A file that is laid out from parts, with the samples read from the plain bytes. These need not be the samples' own:
+-- 80 00 is read as the same sample as 80 01.
+pub record LaidFrom (cipher : Cipher) (ring : List (List ℕ)) (p : Parts) (plain file : List ℕ) : Type 0 where
+  pub size : length plain ≡ 2 * length (p .samples)
+  pub bytes : (i : ℕ) → getD plain i 0 < 256
+  pub read : wordsOf plain ≡ p .samples
+  pub is : file ≡ laid cipher ring p plain
+
+-- a pack as it is sealed: what is enciphered are its samples' bytes
 unfoldable pub layout : Cipher → List (List ℕ) → Parts → List ℕ
 layout cipher ring p = laid cipher ring p (bytesOfAll (p .samples))

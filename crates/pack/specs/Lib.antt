@@ -4,5 +4,6 @@ pub mod Demand2
 pub mod Faults
 pub mod Layout
 pub mod Limits
+pub mod Opposites
 pub mod Places
 pub mod Ring

@@ -12,6 +12,10 @@ lastKey = 3
 abbrev pub mostSamples : ℕ
 mostSamples = 16384
 
+-- the highest sample; the lowest is its opposite
+abbrev pub highestSample : ℕ
+highestSample = 32767
+
 abbrev pub mostLoops : ℕ
 mostLoops = 8
 

@@ -27,18 +27,23 @@ samplesEnd file at = at + 4 + 2 * samplesIn file at
 abbrev pub loopsEnd : List ℕ → ℕ → ℕ
 loopsEnd file at = at + 1 + 8 * byteAt file at
 
--- what a file gives for each part from its key section on, whether or not it is accepted
-abbrev pub partsFrom : Cipher → List (List ℕ) → List ℕ → List ℕ → ℕ → Parts
-partsFrom cipher ring name file at =
+-- from a file's key section on: the plain bytes of its samples, under the key and the value that it names
+abbrev pub plainFrom : Cipher → List (List ℕ) → List ℕ → ℕ → List ℕ
+plainFrom cipher ring file at =
     let value = slice file (at + 2) (cipher .valueBytes) in
     let key = keyNamed ring (byteAt file (at + 1)) in
     let samples = keyEnd cipher at in
-    let loops = samplesEnd file samples in
+    enciphered (cipher .stream key value) (slice file (samples + 4) (2 * samplesIn file samples))
+
+-- and what it gives for each part, whether or not it is accepted: the samples are read from the plain bytes
+abbrev pub partsFrom : Cipher → List (List ℕ) → List ℕ → List ℕ → ℕ → Parts
+partsFrom cipher ring name file at =
+    let loops = samplesEnd file (keyEnd cipher at) in
     record {
       name = name;
       keyNumber = byteAt file (at + 1);
-      value = value;
-      samples = wordsOf (enciphered (cipher .stream key value) (slice file (samples + 4) (2 * samplesIn file samples)));
+      value = slice file (at + 2) (cipher .valueBytes);
+      samples = wordsOf (plainFrom cipher ring file at);
       loops = numbersAt (fours (2 * byteAt file loops)) file (loops + 1);
     }
 
@@ -76,6 +81,9 @@ module _ (cipher : Cipher) where
   -- where the first loop begins
   abbrev pub loopsPlace : List ℕ → ℕ
   loopsPlace file = loopPlace file + 1
+
+  unfoldable pub plainOf : List (List ℕ) → List ℕ → List ℕ
+  plainOf ring file = plainFrom cipher ring file (keyPlace file)
 
   unfoldable pub partsOf : List (List ℕ) → List ℕ → Parts
   partsOf ring file = partsFrom cipher ring (slice file 1 (nameCount file)) file (keyPlace file)

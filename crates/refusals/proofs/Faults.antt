@@ -171,6 +171,10 @@ pub refused-at : (k : ℕ) (faults : List Fault) → FailsAt k faults → number
 unfolding first
 refused-at = told-at (λ f. f .number) accepted
 
+-- the same for a number that the code writes
+pub refused-so : (k : ℕ) (faults : List Fault) {n : ℕ} → FailsAt k faults → n ≡ numberAt k faults → n ≡ first faults
+refused-so k faults fails same = same ∙ refused-at k faults fails
+
 -- ---- and a number tells which rule is broken, if only one has it
 
 -- no rule of the list has the number n, which isn't the one of a call that isn't refused

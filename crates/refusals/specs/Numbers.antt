@@ -96,6 +96,10 @@ cutInSamples = 32
 abbrev pub cutInLoops : ℕ
 cutInLoops = 33
 
+-- sealing: a sample of -32768
+abbrev pub lowestSample : ℕ
+lowestSample = 34
+
 -- receiver: opening of its own session with another length
 abbrev pub otherLength : ℕ
 otherLength = 36

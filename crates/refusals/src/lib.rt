@@ -49,6 +49,8 @@ pub const CUT_IN_SAMPLES: u8 = 32;
 
 pub const CUT_IN_LOOPS: u8 = 33;
 
+pub const LOWEST_SAMPLE: u8 = 34;
+
 pub const OTHER_LENGTH: u8 = 36;
 
 // What a file's rules come to: a number for no, and how many bytes the file lacks where it breaks off.

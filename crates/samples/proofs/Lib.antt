@@ -1,3 +1,2 @@
-pub mod FourWords
 pub mod Reversed
 pub mod Words

@@ -1,8 +1,16 @@
+ghost use mathlib.Core.List.{reverse};
 ghost use mathlib.Core.Path.{_≡_};
-ghost use Rattle.samples.specs.Words.{signed, wordOf, unsigned, turned, swapped};
+ghost use Prim.Native.Nat.{_+_, _≤_};
+ghost use lib.ListN.{length};
+ghost use Rattle.octets.specs.Buffers.{slice};
+ghost use Rattle.octets.specs.Digits.{number};
+ghost use Rattle.samples.specs.Words.{signed, wordOf, unsigned, swapped, eightFrom};
 
-// The sample that 16 bits stand for.
-pub fn sample(n: u16) -> i16
+// The lowest sample: it has an opposite, and -32768 has none.
+const LOWEST: i16 = -32767;
+
+// The signed number that 16 bits stand for.
+pub fn signed(n: u16) -> i16
     ensures { λ r. ⌜ r ≡ signed n ⌝ }
 {
     if n < 32768 {
@@ -11,11 +19,16 @@ pub fn sample(n: u16) -> i16
     -1 - ((65535 - n) as i16)
 }
 
-// The sample that two bytes are, the most significant first.
+// The sample that two bytes are, the most significant first. It is at least the lowest: the compiler knows that as one
+// instruction for many samples, and needs no test for each.
 pub fn word(upper: u8, lower: u8) -> i16
     ensures { λ r. ⌜ r ≡ wordOf upper lower ⌝ }
 {
-    sample((upper as u16) * 256 + (lower as u16))
+    let number = signed((upper as u16) * 256 + (lower as u16));
+    if number <= LOWEST {
+        return LOWEST;
+    }
+    number
 }
 
 // The 16 bits of a sample.
@@ -45,12 +58,30 @@ pub fn swapped(word: u64) -> u64
     upper * 4294967296 + lower
 }
 
-// The two bytes of each pair in the other order: as if all eight were, and then the four pairs. Written so, the
-// compiler stores and loads four samples at once; it does not if each is taken out of the word by itself.
-pub fn swapped_in_pairs(word: u64) -> u64
-    ensures { λ r. ⌜ r ≡ turned (swapped word) ⌝ }
+// Four bytes from `at` as a number, the least significant first.
+fn four_from(s: &[u8], at: usize) -> u32
+    requires { ⌜ at + 4 ≤ length (now s) ⌝ }
+    ensures { λ r. ⌜ r ≡ number 256 (reverse (slice (now (s .entry)) at 4)) ⌝ }
 {
-    let even = word & 0x00ff00ff00ff00ff;
-    let odd = (word >> 8) & 0x00ff00ff00ff00ff;
-    even * 256 + odd
+    let first = s[at] as u32;
+    let second = s[at + 1] as u32;
+    let third = s[at + 2] as u32;
+    let fourth = s[at + 3] as u32;
+    fourth * 16777216 + third * 65536 + second * 256 + first
+}
+
+// Eight bytes from `at` as a number, the least significant first, if all of them are there: so the compiler loads them
+// as they stand.
+pub fn eight_from(s: &[u8], at: usize) -> u64
+    ensures { λ r. ⌜ r ≡ eightFrom (now (s .entry)) at ⌝ }
+{
+    if s.len() < 8 {
+        return 0;
+    }
+    if s.len() - 8 < at {
+        return 0;
+    }
+    let lower = four_from(s, at) as u64;
+    let upper = four_from(s, at + 4) as u64;
+    upper * 4294967296 + lower
 }

@@ -1,9 +1,10 @@
 // What the parts of a pack have wrong: the rules on them in their order, apart from how they are written.
+ghost use mathlib.Core.Bool.{cond};
 ghost use mathlib.Core.Path.{_≡_};
 ghost use Prim.Native.Nat.{_+_, _*_, _%_, _≤_};
 ghost use lib.ListN.{length};
 ghost use Rattle.pack.specs.Faults.{sealFaults};
-ghost use Rattle.pack.specs.Layout.{parts, loopsGood};
+ghost use Rattle.pack.specs.Layout.{parts, samplesGood, loopsGood};
 ghost use Rattle.refusals.specs.Rules.{first};
 ghost use Rattle.trivium.specs.Keystream as Keystream;
 
@@ -26,6 +27,22 @@ fn loops_in_rule(loops: &[u32], samples: usize) -> bool
         i += 1;
     }
     true
+}
+
+// 1 if there is a sample that has no opposite, and 0 if each has one. All samples are looked at, whatever is found, and
+// the number is as wide as they are: so the compiler takes eight at a time.
+fn lowest_found(samples: &[i16]) -> u16
+    ensures { λ r. ⌜ r ≡ cond (samplesGood (now (samples .entry))) 0 1 ⌝ }
+{
+    let mut found: u16 = 0;
+    let mut i = 0;
+    while i < samples.len() {
+        if samples[i] == -32768 {
+            found = 1;
+        }
+        i += 1;
+    }
+    found
 }
 
 // The length of a file with a name, samples and a run of loops of these lengths.
@@ -62,8 +79,12 @@ pub fn seal_fault(
     if pack::LAST_KEY < key {
         return refusals::BAD_KEY_NUMBER;
     }
+    let lowest = lowest_found(samples) as usize;
     if pack::MOST_SAMPLES < samples.len() {
         return refusals::MANY_SAMPLES;
+    }
+    if 0 < lowest {
+        return refusals::LOWEST_SAMPLE;
     }
     if 2 * pack::MOST_LOOPS < loops.len() {
         return refusals::MANY_LOOPS;

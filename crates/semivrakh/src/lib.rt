@@ -13,7 +13,7 @@ ghost use Rattle.link_status.specs.Calls.{senderStatus, receiverStatus};
 ghost use Rattle.semivrakh.specs.Version.{version};
 
 // Ten thousand times the version's first number, a hundred times its second, and its third.
-const VERSION: u32 = 400;
+const VERSION: u32 = 500;
 
 #[no_mangle]
 pub extern "C" fn semivrakh_version() -> u32

@@ -7,8 +7,8 @@ use Rattle.octets.specs.Buffers.{slice, placed, put}
 use Rattle.octets.specs.Digits.{number, numberAfter, numberAt, digits, word, byteOf}
 use Rattle.octets.specs.Stream.{from, enciphered}
 use Rattle.octets.proofs.Numbers.{Below, digit-at}
-use Rattle.octets.proofs.Streams.{byteOfWord, word-enciphered, enciphered-same, power-of-bytes, runs-placed, Gives}
-use Rattle.octets.proofs.Streams.{under, run-under, run-put, two-under}
+use Rattle.octets.proofs.Streams.{byteOfWord, power-of-bytes, runs-placed, Gives}
+use Rattle.octets.proofs.Streams.{OfBytes, under, run-under, run-put, two-under}
 use Rattle.taps.specs.{Keystream.bits, Keystream.keystream}
 use Rattle.taps.specs.Registers.{State, next, outputBit, steps}
 use Rattle.taps.proofs.Steps.{steps-bytes, number-bits, bits-small}
@@ -17,6 +17,11 @@ use Rattle.taps.proofs.Steps.{steps-bytes, number-bits, bits-small}
 pub keystream-from : (n : ℕ) (s : State) → from n (keystream s) ≡ keystream (steps (8 * n) s)
 unfolding keystream steps
 keystream-from n s = λ j i. keystream (steps-bytes n i s j) 0
+
+-- and its elements are bytes
+pub keystream-bytes : (s : State) → OfBytes (keystream s)
+unfolding keystream
+keystream-bytes s n = bits-small 8 (steps (8 * n) s)
 
 -- the word that 8n bits make
 word-gives : (n : ℕ) (s : State) → Gives n (number 2 (bits (8 * n) s)) (keystream s)
@@ -30,13 +35,6 @@ word-gives n s i h =
     ∙ ap (λ (v : ℕ). v % 256) (high (number 2 (bits (8 * i + 8) s)) m (bits-small m (steps (8 * i + 8) s)))
     ∙ ap (λ (v : ℕ). v % 256) (number-bits (8 * i) 8 s)
     ∙ low (number 2 (bits (8 * i) s)) 8 (bits-small 8 (steps (8 * i) s))
-
--- a run of bytes as a number, under as many bits of the keystream as a number, is the run enciphered
-pub run-enciphered : (xs : List ℕ) (s : State) → Below 256 xs
-    → digits 256 (length xs) (bitXor (number 256 xs) (number 2 (bits (8 * length xs) s))) ≡ enciphered (keystream s) xs
-run-enciphered xs s b =
-    let z : ℕ = number 2 (bits (8 * length xs) s) in
-    word-enciphered xs z b ∙ enciphered-same (byteOfWord (length xs) z) (keystream s) xs (word-gives (length xs) s)
 
 -- a part of the input read as a number, enciphered, and written back
 module _ (input : List ℕ) (at n : ℕ) (s : State) (small : n ≤ 8) (hi : at + n ≤ length input)

@@ -3,6 +3,7 @@
 //     open LABEL FILE ROOM
 //     seal LABEL SAMPLES NAME KEY VALUE LOOPS ROOM
 //     trip SEED COUNT NAME KEY VALUE LOOPS FILE_ROOM SOUND_ROOM
+//     lowest SEED COUNT NAME KEY VALUE LOOPS FILE_ROOM PLACE
 //
 // with two bytes for each sample and four for each number of a loop.
 mod calls;
@@ -13,6 +14,10 @@ fn run(row: &[u8]) {
     let word = test_kit::field(row, 0);
     if check::same(word, b"trip") {
         trips::trip(row);
+        return;
+    }
+    if check::same(word, b"lowest") {
+        trips::lowest(row);
         return;
     }
     io::write_all(1, test_kit::field(row, 1));

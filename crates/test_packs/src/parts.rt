@@ -86,6 +86,18 @@ fn large_run() -> [u32; 18]
     [0; 18]
 }
 
+// Fills the output with the signed numbers of two bytes each, -32768 too, which no opening gives. Behind the last they
+// are 0.
+fn twos(bytes: &[u8], output: &mut [i16]) {
+    let mut i = 0;
+    let mut at = 0;
+    while i < output.len() {
+        output[i] = samples::signed(octets::two_at(bytes, at));
+        at = std::num::wrapping_add_usize(at, 2);
+        i += 1;
+    }
+}
+
 // Fills the output with numbers of four bytes. Behind the last they are 0.
 fn fours(bytes: &[u8], output: &mut [u32]) {
     let mut i = 0;
@@ -127,7 +139,7 @@ pub fn seal(
     let mut sound = large_sound();
     let mut run = large_run();
     let lent = least(room, file.len());
-    sample_runs::read_words(body, &mut sound);
+    twos(body, &mut sound);
     fours(loops, &mut run);
     sealer::seal(
         name,

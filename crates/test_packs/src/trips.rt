@@ -8,7 +8,10 @@ ghost use lib.ListN.{length};
 use pack::Opened;
 
 // What a sound begins with: both ends of the range and both sides of 0.
-const EDGES: [u8; 8] = [0x80, 0, 0xff, 0xff, 0, 0, 0x7f, 0xff];
+const EDGES: [u8; 8] = [0x80, 1, 0xff, 0xff, 0, 0, 0x7f, 0xff];
+
+// The lowest sample.
+const LOWEST: [u8; 2] = [0x80, 1];
 
 const FILE_ROOM: usize = 32900;
 
@@ -171,5 +174,58 @@ pub fn trip(row: &[u8]) {
         row,
         octets::slice(&bytes, 0, std::num::wrapping_add_usize(count, count)),
     );
+    io::write_all(1, b"\n");
+}
+
+// A file with the last bit of one of its bytes turned over, and so that of the plain byte: 80 01 becomes 80 00. Behind
+// the file there is no such byte.
+fn turn_over(file: &[u8], at: usize, other: &mut [u8]) {
+    octet_writer::copy(other, 0, file);
+    if at < other.len() {
+        other[at] = other[at] ^ 1;
+    }
+}
+
+// Where the sample at a place has its last byte, or the end of all room if there is no such sample.
+fn last_byte(value_at: usize, count: usize, place: usize) -> usize {
+    if place < count {
+        return value_at % 256 + 15 + 2 * (place % 16384);
+    }
+    FILE_ROOM
+}
+
+// A file, and another that differs from it in the last bit of a sample, or in nothing. The other one opens to the same
+// sound; sealed again it is the first one, and itself only if they don't differ.
+fn lowest_back(file: &[u8], other: &[u8], bytes: usize, body: &[u8]) {
+    let opened = open(
+        b"opened",
+        parts::own_ring(),
+        octets::slice(other, 0, bytes),
+        SOUND_ROOM,
+        body,
+    );
+    seal_again(b"file", other, opened, opened.key, body, 0, FILE_ROOM);
+    seal_again(b"first file", file, opened, opened.key, body, 0, FILE_ROOM);
+}
+
+fn lowest_there(row: &[u8], body: &[u8], place: usize) {
+    let mut file = file_room();
+    let mut other = file_room();
+    let sealed = parts::seal_row(row, parts::own_ring(), body, &mut file);
+    let first = opener::survey(octets::slice(&file, 0, sealed.length));
+    let at = last_byte(first.value_at, body.len() / 2, place);
+    turn_over(&file, at, &mut other);
+    lowest_back(&file, &other, sealed.length, body);
+}
+
+// With the lowest sample at PLACE, of which the file has 80 00 then.
+pub fn lowest(row: &[u8]) {
+    let mut bytes = io::large_buffer();
+    let count = test_kit::field_number(row, 2) as usize % 16385;
+    let place = test_kit::field_number(row, 8) as usize % 16385;
+    let sample = LOWEST;
+    fill(test_kit::field_number(row, 1), &mut bytes);
+    octet_writer::copy(&mut bytes, 2 * place, &sample);
+    lowest_there(row, octets::slice(&bytes, 0, 2 * count), place);
     io::write_all(1, b"\n");
 }

@@ -1,6 +1,6 @@
 -- What the public calls' definitions come to. Each theorem rests on the laws of steps and of bytes under any keystream.
 use mathlib.Core.{Path._≡_, Path.refl, Path.sym, Path.ap, Path.subst, Path._∙_, List.List, List._∷_, List._++_}
-use Prim.Native.Nat.{ℕ, zero, suc, _+_, _*_, _^_, _<_, _≤_}
+use Prim.Native.Nat.{ℕ, zero, suc, _+_, _*_, _≤_}
 use native.Mathlib.Omega.{arith}
 use lib.{ListN.length, ListN.take, ListN.drop, ListN.length-append, ListN.length-drop, Pow.shr-lt}
 use Rattle.octets.specs.{Buffers.placed, Digits.number, Stream.Keystream, Stream.enciphered}

@@ -2,10 +2,10 @@
 use mathlib.Core.Path.{refl}
 use Rattle.frames.specs.Frames.{bytes}
 use Rattle.octets.specs.{Digits.digits, Digits.numberAfter, Digits.bitsOf, Rows.row}
-use Rattle.samples.specs.Words.{signed}
+use Rattle.samples.specs.Words.{signed, sampleOf}
 use Rattle.trivium.specs.Registers.{loaded, outputBit}
 use Rattle.worked_examples.specs.Table.{Holds, table}
 
 pub checked : Holds table
-unfolding digits numberAfter bitsOf row signed loaded outputBit bytes
+unfolding digits numberAfter bitsOf row signed sampleOf loaded outputBit bytes
 checked = (refl, (refl, (refl, (refl, (refl, (refl, (refl, (refl, (refl, (refl, (refl, tt)))))))))))

@@ -36,9 +36,9 @@ tenZeros = replicate 10 0
 
 abbrev pub table : List Example
 table =
-    -- words: FF FE is -2, 80 00 is -32768, 00 80 is 128, 7F FF is 32767
+    -- words: FF FE is -2, 80 00 is -32767, 00 80 is 128, 7F FF is 32767
     example (wordOf 0xFF 0xFE) (negsuc 1)
-    ∷ example (wordOf 0x80 0x00) (negsuc 32767)
+    ∷ example (wordOf 0x80 0x00) (negsuc 32766)
     ∷ example (wordOf 0x00 0x80) (pos 128)
     ∷ example (wordOf 0x7F 0xFF) (pos 32767)
     -- registers all 0: output 0, new bits 0, 0, 0

@@ -1,6 +1,6 @@
 -- `blocks::cover` meets its contract: without room it does nothing; with it, what the cipher writes to the front of the
 -- part from `at` on stands at `at` in the buffer.
-use mathlib.Core.{Path._≡_, Path.sym, Path.ap, Path._∙_, List.List, List._++_}
+use mathlib.Core.{Path.sym, Path.ap, Path._∙_, List.List, List._++_}
 use Prim.Native.Nat.{ℕ, _+_, _-_, _≤_}
 use native.Mathlib.Omega.{arith}
 use borrow.Author.Needs.{needs}

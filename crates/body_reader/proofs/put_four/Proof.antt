@@ -1,53 +1,46 @@
--- `body_reader::put_four` meets its contract: with its pairs swapped the word has the samples from the lowest on, and
--- stores in a row are a run in its place.
-use mathlib.Core.{Path._≡_, Path.sym, Path.ap, Path._∙_, List.List, List.[], List._∷_}
+-- `body_reader::put_four` meets its contract: from the lowest on, the 16 bits of a word are its bytes in the other
+-- order, by twos, and stores in a row are a run in its place.
+use mathlib.Core.{Path._≡_, Path.sym, Path.ap, Path._∙_, List.List}
 use Prim.Native.Nat.{ℕ, _+_, _/_, _%_, _^_, _<_}
 use native.Mathlib.Omega.{arith}
 use borrow.Author.Needs.{needs, sfits-of}
-use lib.{IntN.ℤ, ListN.set, ListN.length-set, Signed.mag}
+use lib.{IntN.ℤ, ListN.set, ListN.drop, ListN.length-set, Signed.mag}
 use mir.Syntax.{w16}
 use mir.Val.{toZ, ofZ}
 use mir.ValLaws.{toZ-ofZ}
 use Rattle.octets.specs.Buffers.{put}
 use Rattle.octets.proofs.Buffers.{placed-stores, put-placed}
-use Rattle.samples.specs.Words.{signed, swapped}
-use Rattle.samples.proofs.FourWords.{turned-words}
-use Rattle.body_reader.proofs.put_four.Statement.{statement}
+use Rattle.samples.specs.Words.{signed}
+use Rattle.body_reader.proofs.{Samples.fourOf, Samples.four-unturned, put_four.Statement.statement}
 use Rattle.body_reader.proofs.put_four.Tie as tie
 
--- a sample that is stored is the one that was read
-stored : {z s : ℤ} → mag z < 32768 → z ≡ s → toZ w16 (ofZ w16 z) ≡ s
-stored {z} small e = toZ-ofZ w16 z (sfits-of small) ∙ e
-
--- the four samples of a word, from the lowest on
-abbrev four : ℕ → List ℤ
-four t =
-    signed (t % 65536) ∷ signed (t / 2 ^ 16 % 65536) ∷ signed (t / 2 ^ 32 % 65536) ∷ signed (t / 2 ^ 48 % 65536) ∷ []
+-- what is stored is the number of the 16 bits in their place; `m` is what the code takes out of the word
+stored : (n : ℕ) {z : ℤ} {m : ℕ} → mag z < 32768 → z ≡ signed m → m ≡ n → toZ w16 (ofZ w16 z) ≡ signed n
+stored n {z} small e same = toZ-ofZ w16 z (sfits-of small) ∙ e ∙ ap signed same
 
 returns : tie.Need-returns
 returns c =
     let three = c .before in
     let two = three .before in
     let one = two .before in
-    let turn = one .before in
-    let d : List ℤ = turn .before .args .output .now in
-    let at : ℕ = turn .before .args .place in
-    let t : ℕ = turn .swapped-in-pairs .result in
-    let first = stored (one .sample .ok) (one .sample .ensures) in
-    let second = stored (two .sample2 .ok) (two .sample2 .ensures) in
-    let third = stored (three .sample3 .ok) (three .sample3 .ensures) in
-    let fourth = stored (c .sample4 .ok) (c .sample4 .ensures) in
+    let start = one .before in
+    let d : List ℤ = start .args .output .now in
+    let at : ℕ = start .args .place in
+    let x : ℕ = start .args .word in
+    let first = stored (x % 65536) (one .signed .ok) (one .signed .ensures) (omega arith) in
+    let second = stored (x / 2 ^ 16 % 65536) (two .signed2 .ok) (two .signed2 .ensures) (omega arith) in
+    let third = stored (x / 2 ^ 32 % 65536) (three .signed3 .ok) (three .signed3 .ensures) (omega arith) in
+    let fourth = stored (x / 2 ^ 48 % 65536) (c .signed4 .ok) (c .signed4 .ensures) (omega arith) in
     (λ i. set (set (set (set d at (first i)) (at + 1) (second i)) (at + 2) (third i)) (at + 3) (fourth i))
-    ∙ placed-stores d at (signed (t % 65536))
-    (signed (t / 2 ^ 16 % 65536) ∷ signed (t / 2 ^ 32 % 65536) ∷ signed (t / 2 ^ 48 % 65536) ∷ []) (turn .before .pre)
-    ∙ sym (put-placed d at (four t) (turn .before .pre))
-    ∙ ap (put d at) (ap four (turn .swapped-in-pairs .ensures) ∙ turned-words (swapped (turn .before .args .word)))
+    ∙ placed-stores d at (signed (x % 65536)) (drop 1 (fourOf x)) (start .pre)
+    ∙ sym (put-placed d at (fourOf x) (start .pre))
+    ∙ ap (put d at) (four-unturned x)
 
 pub put-four-spec : {M : Type 1} → statement M
 put-four-spec =
     tie.close
-    (tie.spec (λ c κs. search needs) (λ c. search needs) (λ c κs. search needs) (λ c. search needs)
-    (λ c κs. search needs) (λ c. search needs) (λ c κs. search needs) (λ c. search needs) (λ c κs. search needs)
-    (λ c. search needs) (λ c. search needs) (λ c. search needs) (λ c. search needs)
-    (λ c. simp length-set (omega arith)) (λ c. search needs) (λ c. search needs) (λ c. simp length-set (omega arith))
-    (λ c. search needs) (λ c. search needs) (λ c. simp length-set (omega arith)) (λ c. search needs) returns)
+    (tie.spec (λ c. search needs) (λ c κs. search needs) (λ c. search needs) (λ c. search needs) (λ c. search needs)
+    (λ c κs. search needs) (λ c. search needs) (λ c. search needs) (λ c. simp length-set (omega arith))
+    (λ c. search needs) (λ c κs. search needs) (λ c. search needs) (λ c. search needs)
+    (λ c. simp length-set (omega arith)) (λ c. search needs) (λ c κs. search needs) (λ c. search needs)
+    (λ c. search needs) (λ c. simp length-set (omega arith)) (λ c. search needs) returns)

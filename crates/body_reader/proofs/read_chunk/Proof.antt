@@ -1,33 +1,33 @@
 -- `body_reader::read_chunk` meets its contract: a stride's word deciphers eight bytes, and the next stride's the eight
 -- behind them.
-use mathlib.Core.{Path._≡_, Path.sym, Path.ap, Path.ap₂, Path._∙_, List.List}
+use mathlib.Core.{Path._≡_, Path.sym, Path.ap, Path._∙_, List.List}
 use Prim.Native.Nat.{ℕ, _+_, _*_, _/_, _≤_}
 use native.Mathlib.Omega.{arith}
 use borrow.Author.Needs.{needs}
-use lib.{Bits.bitXor, ListN.length}
-use Rattle.octets.specs.{Buffers.slice, Buffers.put, Digits.digits, Digits.numberAt, Stream.enciphered}
-use Rattle.octets.proofs.Numbers.{Below, number-at-below, number-read}
-use Rattle.octets.proofs.Slices.{length-slice, slice-add}
-use Rattle.samples.specs.Words.{swapped, wordsOf}
-use Rattle.samples.proofs.Reversed.{swapped-xor}
+use lib.{Bits.bitXor, IntN.ℤ, ListN.length}
+use Rattle.octets.specs.{Buffers.slice, Buffers.put, Digits.digits, Stream.enciphered}
+use Rattle.samples.specs.Words.{swapped}
+use Rattle.octets.proofs.{Numbers.Below, Slices.length-slice, Slices.slice-add, Streams.under}
+use Rattle.samples.proofs.Reversed.{swapped-under}
 use Rattle.trivium.specs.{Calls.running, Keystream.keystream, Record.state, Registers.State, Registers.steps}
 use Rattle.trivium.specs.{declared.Ran.Ran, declared.Running.Running}
 use Rattle.trivium.proofs.{Bytes.run-read, Steps.steps-add, Steps.ran-word, Steps.ran-below, Steps.ran-state}
+use Rattle.body_reader.specs.Unturned.{unturned}
 use Rattle.body_reader.proofs.{Samples.samples-on, read_chunk.Statement.statement}
 use Rattle.body_reader.proofs.read_chunk.Tie as tie
 
--- a stride's word and eight bytes of the body, both in the other order, are the samples of the bytes deciphered
-deciphered : (w : Running) (ran : Ran) (body : List ℕ) (at read stream : ℕ) → ran ≡ running w
-    → read ≡ swapped (numberAt body at 8) → stream ≡ swapped (ran .word) → at + 8 ≤ length body → Below 256 body
-    → wordsOf (digits 256 8 (swapped (bitXor read stream)))
-    ≡ wordsOf (enciphered (keystream (state (w .registers))) (slice body at 8))
-deciphered w ran body at read stream e same turned h b =
-    let number : ℕ = numberAt body at 8 in
-    ap wordsOf
-    (ap₂ (λ (x y : ℕ). digits 256 8 (swapped (bitXor x y))) same turned
-    ∙ ap (digits 256 8) (swapped-xor number (ran .word) (number-at-below body at 8 b) (ran-below w ran e))
-    ∙ ap₂ (λ (x y : ℕ). digits 256 8 (bitXor x y)) (sym (number-read body at 8 b (omega arith))) (ran-word w ran e)
-    ∙ run-read body at 8 (state (w .registers)) (omega arith) h b)
+-- eight bytes under a stride's word are the bytes deciphered
+deciphered : (w : Running) (ran : Ran) (body : List ℕ) (at : ℕ) → ran ≡ running w → at + 8 ≤ length body
+    → Below 256 body
+    → under body at 8 (ran .word) ≡ enciphered (keystream (state (w .registers))) (slice body at 8)
+deciphered w ran body at e h b =
+    ap (under body at 8) (ran-word w ran e) ∙ run-read body at 8 (state (w .registers)) (omega arith) h b
+
+-- four samples that were put; `given` is the word that the code names
+put-so : (d : List ℤ) (at word : ℕ) {e : List ℤ} {given : ℕ} → e ≡ put d at (unturned (digits 256 8 (swapped given)))
+    → given ≡ word
+    → e ≡ put d at (unturned (digits 256 8 (swapped word)))
+put-so d at word done same = done ∙ ap (λ (n : ℕ). put d at (unturned (digits 256 8 (swapped n)))) same
 
 returns : tie.Need-returns
 returns c =
@@ -49,20 +49,25 @@ returns c =
     let two : Ran = stride2 .stride2 .result in
     let s : State = state (p .running .registers) in
     let on : state (one .next .registers) ≡ steps 64 s = ran-state (p .running) one (stride1 .stride .ensures) in
-    let first : put1 .put-four .last .0 ≡ put (p .output .now) (p .at / 2) (wordsOf (enciphered (keystream s) xs)) =
-    put1 .put-four .ensures
-    ∙ ap (put (p .output .now) (p .at / 2))
-    (deciphered (p .running) one (p .body .now) (p .at) (read1 .eight-from .result) (turn1 .swapped .result)
-    (stride1 .stride .ensures) (read1 .eight-from .ensures) (turn1 .swapped .ensures) (omega arith) bytes) in (
-      ran-state (one .next) two (stride2 .stride2 .ensures) ∙ ap (steps 64) on ∙ sym (steps-add 64 64 s),
-      put2 .put-four2 .ensures
-          ∙ ap (put (put1 .put-four .last .0) (p .at / 2 + 4))
-          (deciphered (one .next) two (p .body .now) (p .at + 8) (read2 .eight-from2 .result)
-          (turn2 .swapped2 .result) (stride2 .stride2 .ensures) (read2 .eight-from2 .ensures) (turn2 .swapped2 .ensures)
-          (omega arith) bytes)
-          ∙ samples-on s (state (one .next .registers)) xs ys (p .output .now) (p .at / 2) (omega arith)
+    let ran1 = stride1 .stride .ensures in
+    let ran2 = stride2 .stride2 .ensures in
+    let upper = swapped-under (p .body .now) (p .at) (one .word) (read1 .eight-from .ensures) (omega arith)
+    (turn1 .swapped .ensures) (omega arith) (ran-below (p .running) one ran1) (omega arith) bytes
+    ∙ deciphered (p .running) one (p .body .now) (p .at) ran1 (omega arith) bytes in
+    let lower = swapped-under (p .body .now) (p .at + 8) (two .word) (read2 .eight-from2 .ensures) (omega arith)
+    (turn2 .swapped2 .ensures) (omega arith) (ran-below (one .next) two ran2) (omega arith) bytes
+    ∙ deciphered (one .next) two (p .body .now) (p .at + 8) ran2 (omega arith) bytes in
+    let first : put1 .put-four .last .0 ≡ put (p .output .now) (p .at / 2) (unturned (enciphered (keystream s) xs)) =
+    put-so (p .output .now) (p .at / 2) (bitXor (read1 .eight-from .result) (turn1 .swapped .result))
+    (put1 .put-four .ensures) (omega arith)
+    ∙ ap (λ (l : List ℕ). put (p .output .now) (p .at / 2) (unturned l)) upper in (
+      ran-state (one .next) two ran2 ∙ ap (steps 64) on ∙ sym (steps-add 64 64 s),
+      put-so (put1 .put-four .last .0) (p .at / 2 + 4) (bitXor (read2 .eight-from2 .result) (turn2 .swapped2 .result))
+          (put2 .put-four2 .ensures) (omega arith)
+          ∙ ap (λ (l : List ℕ). put (put1 .put-four .last .0) (p .at / 2 + 4) (unturned l)) lower
+          ∙ samples-on _ s (state (one .next .registers)) xs ys (p .output .now) (p .at / 2) (omega arith)
           (on ∙ ap (λ (n : ℕ). steps (8 * n) s) (sym front)) first (omega arith) (omega arith)
-          ∙ ap (λ (l : List ℕ). put (p .output .now) (p .at / 2) (wordsOf (enciphered (keystream s) l)))
+          ∙ ap (λ (l : List ℕ). put (p .output .now) (p .at / 2) (unturned (enciphered (keystream s) l)))
           (sym (slice-add (p .body .now) (p .at) 8 8)),
     )
 

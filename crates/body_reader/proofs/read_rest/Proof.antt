@@ -8,7 +8,7 @@ use lib.{IntN.ℤ, ListN.length, ListN.take, ListN.drop}
 use Rattle.octets.specs.{Buffers.slice, Buffers.placed, Buffers.put, Stream.enciphered}
 use Rattle.octets.proofs.{Buffers.take-placed, Buffers.put-part, Slices.length-slice, Streams.length-enciphered}
 use Rattle.refusals.specs.Outcome.{Outcome}
-use Rattle.samples.specs.Words.{wordsOf}
+use Rattle.samples.specs.Words.{wordOf, wordsOf}
 use Rattle.trivium.specs.{Calls.enciphering, Keystream.keystream, Record.state, declared.Enciphered.Enciphered}
 use Rattle.trivium.specs.{declared.Registers.Registers}
 use Rattle.trivium.proofs.Theorems.{enciphers}
@@ -35,7 +35,7 @@ returns c =
     let bytes : List ℕ = slice (p .body .now) (p .at) (p .size) in
     let run : List ℕ = enciphered (keystream (state (p .registers))) bytes in
     let size : length bytes ≡ p .size = length-slice (p .body .now) (p .at) (p .size) (omega arith) in
-    let long = length-read (keystream (state (p .registers))) bytes in
+    let long = length-read wordOf (keystream (state (p .registers))) bytes in
     let room : List ℕ = some1 .before .blank .result in
     let read : some2 .slice2 .result .now ≡ run =
     some2 .slice2 .ensures

@@ -1,50 +1,76 @@
 -- `body_reader::read_samples` meets its contract: after each turn the samples of the first `at` bytes are in place, and
 -- the registers have gone as far.
-use mathlib.Core.{Path._≡_, Path.refl, Path.sym, Path.ap, Path.ap₂, Path._∙_, List.List}
+use mathlib.Core.{Path._≡_, Path.refl, Path.sym, Path.ap, Path.ap₂, Path._∙_, List.List, List.map}
 use Prim.Native.Nat.{ℕ, _+_, _-_, _*_, _/_, _%_, _≤_}
 use native.Mathlib.Omega.{arith}
 use lib.{IntN.ℤ, ListN.length, ListN.take, Seq.length-take-le, Seq.take-all, Seq.take-add}
-use Rattle.octets.specs.{Buffers.slice, Buffers.put, Stream.enciphered}
-use Rattle.octets.proofs.{Buffers.put-none, Buffers.put-nothing, Slices.length-slice}
-use Rattle.samples.specs.Words.{wordsOf}
+use Rattle.octets.specs.{Buffers.slice, Buffers.placed, Buffers.put, Stream.enciphered}
+use Rattle.octets.proofs.Buffers.{put-placed, put-none, put-nothing, put-over, take-placed}
+use Rattle.octets.proofs.{Numbers.Below, Numbers.below-slice, Slices.length-slice}
+use Rattle.samples.specs.Words.{wordOf, byTwos, wordsOf}
 use Rattle.trivium.specs.{Keystream.keystream, Record.state, Registers.State, Registers.steps}
+use Rattle.trivium.proofs.Bytes.{keystream-bytes}
 use Rattle.trivium.proofs.Steps.{steps-none, steps-bytes, run-begun, run-stopped}
-use Rattle.body_reader.proofs.{Samples.length-read, Samples.samples-on, read_samples.Statement.statement}
+use Rattle.body_reader.specs.Unturned.{lowFirst, unturned, turned, turnedFront}
+use Rattle.body_reader.proofs.{Samples.length-read, Samples.samples-on, Samples.turned-samples}
+use Rattle.body_reader.proofs.read_samples.Statement.{statement}
 use Rattle.body_reader.proofs.read_samples.Tie as tie
 
--- the samples of the body's front, in their place
-abbrev read : State → List ℕ → List ℤ → ℕ → List ℤ
-read s body output at = put output 0 (wordsOf (enciphered (keystream s) (take at body)))
+-- what the body's front makes by twos, in its place
+abbrev read : (ℕ → ℕ → ℤ) → State → List ℕ → List ℤ → ℕ → List ℤ
+read make s body output at = put output 0 (byTwos make (enciphered (keystream s) (take at body)))
 
 abbrev Inv-loop : tie.InvT-loop
 Inv-loop body output₀ n running₀ at₀ output running at =
     (at ≤ length body) × (at % 16 ≡ 0) × (length output ≡ length output₀)
     × (state (running .registers) ≡ steps (8 * at) (state (running₀ .registers)))
-    × (output ≡ read (state (running₀ .registers)) body output₀ at)
+    × (output ≡ read lowFirst (state (running₀ .registers)) body output₀ at)
 
 abbrev μ-loop : tie.MeasureT-loop
 μ-loop body output₀ n running₀ at₀ output running at = length body - at
 
-nothing : (s : State) (body : List ℕ) (output : List ℤ) → output ≡ read s body output 0
-unfolding enciphered wordsOf
+nothing : (s : State) (body : List ℕ) (output : List ℤ) → output ≡ read lowFirst s body output 0
+unfolding enciphered byTwos
 nothing s body output = put-nothing output 0
 
 -- so many bytes further
-further : (s now : State) (body : List ℕ) (output left : List ℤ) (at size : ℕ) → at % 2 ≡ 0 → at + size ≤ length body
-    → length body / 2 ≤ length output → now ≡ steps (8 * at) s → left ≡ read s body output at
-    → put left (at / 2) (wordsOf (enciphered (keystream now) (slice body at size))) ≡ read s body output (at + size)
-further s now body output left at size even hb ho gone done =
+further : (make : ℕ → ℕ → ℤ) (s now : State) (body : List ℕ) (output left : List ℤ) (at size : ℕ) → at % 2 ≡ 0
+    → at + size ≤ length body
+    → length body / 2 ≤ length output → now ≡ steps (8 * at) s → left ≡ read make s body output at
+    → put left (at / 2) (byTwos make (enciphered (keystream now) (slice body at size)))
+    ≡ read make s body output (at + size)
+further make s now body output left at size even hb ho gone done =
     let front : length (take at body) ≡ at = length-take-le at body (omega arith) in
     let behind : length (slice body at size) ≡ size = length-slice body at size hb in
-    samples-on s now (take at body) (slice body at size) output 0 (omega arith)
+    samples-on make s now (take at body) (slice body at size) output 0 (omega arith)
     (gone ∙ ap (λ (n : ℕ). steps (8 * n) s) (sym front)) done (omega arith) (omega arith)
-    ∙ ap (λ (l : List ℕ). put output 0 (wordsOf (enciphered (keystream s) l))) (sym (take-add at size body))
+    ∙ ap (λ (l : List ℕ). put output 0 (byTwos make (enciphered (keystream s) l))) (sym (take-add at size body))
+
+-- all that is there, turned
+all-turned : (s : State) (body : List ℕ) (output left : List ℤ) (at : ℕ) {count : ℕ} → count ≡ at / 2 → at ≤ length body
+    → length body / 2 ≤ length output → Below 256 body → left ≡ read lowFirst s body output at
+    → put left 0 (turnedFront count left) ≡ read wordOf s body output at
+unfolding turnedFront
+all-turned s body output left at {count} half hb ho b done =
+    let front : List ℕ = take at body in
+    let size : length front ≡ at = length-take-le at body hb in
+    let run : List ℤ = unturned (enciphered (keystream s) front) in
+    let words : List ℤ = wordsOf (enciphered (keystream s) front) in
+    let long = length-read lowFirst (keystream s) front in
+    let same : length run ≡ length words = long ∙ sym (length-read wordOf (keystream s) front) in
+    let all : count ≡ length run = omega arith in
+    let there : take count left ≡ run =
+    ap (take count) (done ∙ put-placed output 0 run (omega arith)) ∙ ap (λ (n : ℕ). take n (placed output 0 run)) all
+    ∙ take-placed output run (omega arith) in
+    ap₂ (λ (d l : List ℤ). put d 0 (map turned l)) done there
+    ∙ ap (put (put output 0 run) 0) (turned-samples (keystream s) front (keystream-bytes s) (below-slice body 0 at b))
+    ∙ put-over output 0 run words same (omega arith)
 
 returns : tie.Need-returns Inv-loop μ-loop
 returns c =
     let p = c .before .before .args in
     let run : List ℤ = wordsOf (enciphered (keystream (state (p .start))) (p .body .now)) in
-    put-none (p .output .now) 0 run (omega (arith, length-read (keystream (state (p .start))) (p .body .now)))
+    put-none (p .output .now) 0 run (omega (arith, length-read wordOf (keystream (state (p .start))) (p .body .now)))
 
 loop-holds : tie.Need-loop-holds Inv-loop μ-loop
 loop-holds c =
@@ -64,27 +90,35 @@ loop-again c =
       m .read-chunk .kept .1 .1 .0 ∙ l .inv .2,
       m .read-chunk .ensures .0 ∙ ap (steps 128) (l .inv .3) ∙ sym (steps-bytes (l .at) 16 s),
       m .read-chunk .ensures .1
-          ∙ further s (state (l .running .registers)) (p .body .now) (p .output .now) (l .output) (l .at) 16
+          ∙ further lowFirst s (state (l .running .registers)) (p .body .now) (p .output .now) (l .output) (l .at) 16
           (omega arith) (omega arith) (omega arith) (l .inv .3) (l .inv .4),
     )
 
 same-length : tie.Need-same-length Inv-loop μ-loop
-same-length c = c .before .read-rest .kept .1 .1 .0 ∙ c .before .before .before .before .before .loop .inv .2
+same-length c =
+    let m = c .before in
+    let t = m .before .before .before .before in
+    m .read-rest .kept .1 .1 .0 ∙ t .turn .kept .0 ∙ t .before .before .before .loop .inv .2
 
 returns-2 : tie.Need-returns-2 Inv-loop μ-loop
 returns-2 c =
     let m = c .before in
     let last = m .before .before in
-    let l = last .before .before .loop in
-    let begun = last .before .before .before in
+    let t = last .before .before in
+    let l = t .before .before .before .loop in
+    let begun = t .before .before .before .before in
     let p = begun .before .before .before .args in
+    let bytes : Below 256 (p .body .now) = λ i. omega (arith, begun .before .before .shared-slice-known .given i) in
     let s : State = state (begun .of .result .registers) in
     let n : ℕ = length (p .body .now) in
     let whole : l .at + n % 16 ≡ n = omega arith in
     m .read-rest .ensures
-    ∙ further s (state (last .stop .result)) (p .body .now) (p .output .now) (l .output) (l .at) (n % 16) (omega arith)
-    (omega arith) (omega arith) (run-stopped (l .running) _ (last .stop .ensures) ∙ l .inv .3) (l .inv .4)
-    ∙ ap (read s (p .body .now) (p .output .now)) whole
+    ∙ further wordOf s (state (last .stop .result)) (p .body .now) (p .output .now) (t .turn .last .0) (l .at) (n % 16)
+    (omega arith) (omega arith) (omega arith) (run-stopped (l .running) _ (last .stop .ensures) ∙ l .inv .3)
+    (t .turn .ensures
+    ∙ all-turned s (p .body .now) (p .output .now) (l .output) (l .at) (omega arith) (omega arith) (omega arith)
+    bytes (l .inv .4))
+    ∙ ap (read wordOf s (p .body .now) (p .output .now)) whole
     ∙ ap₂ (λ (s : State) (l : List ℕ). put (p .output .now) 0 (wordsOf (enciphered (keystream s) l)))
     (run-begun (p .start) _ (begun .of .ensures)) (take-all n (p .body .now) (omega arith))
 
@@ -92,4 +126,5 @@ pub read-samples-spec : {M : Type 1} → statement M
 read-samples-spec =
     tie.close
     (tie.spec Inv-loop μ-loop returns (λ c κs. tt) loop-holds (λ c. omega arith) (λ c κs. omega arith)
-    (λ c. omega arith) (λ c. omega arith) loop-again (λ c κs. tt) (λ c κs. omega arith) same-length returns-2)
+    (λ c. omega arith) (λ c. omega arith) loop-again (λ c. omega arith) (λ c κs. omega arith) (λ c κs. tt)
+    (λ c κs. omega arith) same-length returns-2)

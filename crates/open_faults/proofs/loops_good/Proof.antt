@@ -1,8 +1,7 @@
 -- `open_faults::loops_good` meets its contract: what is passed was in rule, so the whole is as good as what is left.
-use mathlib.Core.{Path._≡_, Path.refl, Path.sym, Path.ap, Path._∙_, List.List}
+use mathlib.Core.{Path._≡_, Path.sym, Path.ap, Path._∙_, List.List}
 use Prim.Native.Nat.{ℕ, _+_, _-_, _*_, _/_, _<_, _≤_}
 use native.Mathlib.Omega.{arith}
-use borrow.Author.Needs.{needs}
 use lib.ListN.{length, getD, drop}
 use Rattle.octets.specs.{Digits.numberAt, Rows.numbersAt}
 use Rattle.octets.proofs.Rows.{many-read, number-in}

@@ -8,8 +8,8 @@ use mir.Syntax.{w16}
 use mir.Val.{toZ, ofZ}
 use mir.ValLaws.{toZ-ofZ}
 use Rattle.octets.proofs.Buffers.{put-none, paste-front, paste-all}
-use Rattle.samples.specs.Words.{wordsOf}
-use Rattle.samples.proofs.{Words.word-at, Words.length-words}
+use Rattle.samples.specs.Words.{wordOf, wordsOf}
+use Rattle.samples.proofs.Words.{length-twos, twos-at}
 use Rattle.sample_runs.proofs.read_words.Statement.{statement}
 use Rattle.sample_runs.proofs.read_words.Tie as tie
 
@@ -23,7 +23,7 @@ abbrev μ-loop : tie.MeasureT-loop
 returns : tie.Need-returns Inv-loop μ-loop
 returns c =
     let p = c .before .before .args in
-    put-none (p .output .now) 0 (wordsOf (p .bytes .now)) (rw (length-words (p .bytes .now)) (omega arith))
+    put-none (p .output .now) 0 (wordsOf (p .bytes .now)) (rw (length-twos wordOf (p .bytes .now)) (omega arith))
 
 loop-holds : tie.Need-loop-holds Inv-loop μ-loop
 loop-holds c = (
@@ -39,10 +39,10 @@ loop-again c =
     let p = c .before .before .before .before .before .before .before .args in
     let z : ℤ = toZ w16 (ofZ w16 (c .word .result)) in
     let run : List ℤ = wordsOf (p .bytes .now) in
-    let long : length run ≡ length (p .bytes .now) / 2 = length-words (p .bytes .now) in
+    let long : length run ≡ length (p .bytes .now) / 2 = length-twos wordOf (p .bytes .now) in
     let got : z ≡ getD run (l .i) (pos 0) =
     toZ-ofZ w16 (c .word .result) (sfits-of (c .word .ok)) ∙ c .word .ensures
-    ∙ sym (word-at (p .bytes .now) (l .i) (omega arith)) in (
+    ∙ sym (twos-at wordOf (p .bytes .now) (l .i) (pos 0) (omega arith)) in (
       omega arith,
       length-set (l .output) (l .i) z ∙ l .inv .1,
       ap₂ (λ (d : List ℤ) (y : ℤ). set d (l .i) y) (l .inv .2) got
@@ -53,7 +53,7 @@ returns-2 : tie.Need-returns-2 Inv-loop μ-loop
 returns-2 c =
     let l = c .before .loop in
     let p = c .before .before .before .before .args in
-    let all : l .i ≡ length (wordsOf (p .bytes .now)) = omega (arith, length-words (p .bytes .now)) in
+    let all : l .i ≡ length (wordsOf (p .bytes .now)) = omega (arith, length-twos wordOf (p .bytes .now)) in
     l .inv .2 ∙ paste-all (p .output .now) 0 (wordsOf (p .bytes .now)) (l .i) all (omega arith)
 
 pub read-words-spec : {M : Type 1} → statement M

@@ -8,7 +8,7 @@ use borrow.Author.Tests.{eq-eqb, ne-eqb, le-leb, lt-leb}
 use lib.{Dec.eqb, ListN.length}
 use Rattle.octets.specs.Digits.{numberAt}
 use Rattle.octets.proofs.Numbers.{word-read}
-use Rattle.sender_record.specs.Record.{senderSize, isSender, phaseIn, noSender, senderIn}
+use Rattle.sender_record.specs.Record.{senderSize, isSender, phaseIn, senderIn}
 use Rattle.sender_record.proofs.sender_in.Statement.{statement}
 use Rattle.sender_record.proofs.sender_in.Tie as tie
 

@@ -1,4 +1,4 @@
--- `samples::sample` meets its contract: below 32,768 the number is the sample, and from there on -1 less what is
+-- `samples::signed` meets its contract: below 32,768 the number is the sample, and from there on -1 less what is
 -- missing to 65,535.
 use mathlib.Core.Path.{_≡_, sym, ap, subst, _∙_}
 use Prim.Native.Nat.{ℕ, _-_, _<_, _≤_}
@@ -9,8 +9,8 @@ use mir.Syntax.{w16}
 use mir.Val.{toZ, SFits}
 use mir.ValLaws.{toZ-pos, toZ-ofZ}
 use Rattle.samples.specs.Words.{signed}
-use Rattle.samples.proofs.{Words.minus-one-less, sample.Statement.statement}
-use Rattle.samples.proofs.sample.Tie as tie
+use Rattle.samples.proofs.{Words.minus-one-less, signed.Statement.statement}
+use Rattle.samples.proofs.signed.Tie as tie
 
 positive : (n : ℕ) → n < 32768 → toZ w16 n ≡ signed n
 unfolding signed
@@ -41,7 +41,7 @@ returns-2 c =
     ∙ negative (65535 - n) small
     ∙ below-zero n (omega arith) (omega arith)
 
-pub sample-spec : {M : Type 1} → statement M
-sample-spec =
+pub signed-spec : {M : Type 1} → statement M
+signed-spec =
     tie.close
     (tie.spec (λ c. search needs) returns (λ c. search needs) (λ c. search needs) sub-result-2 returns-2)

@@ -1,4 +1,4 @@
--- `body_reader::four_from` meets its contract: four bytes, each scaled by its place from the last on, make the number
+-- `samples::four_from` meets its contract: four bytes, each scaled by its place from the last on, make the number
 -- of the bytes in the other order.
 use mathlib.Core.{Path.ap, Path._∙_, List.List, List.reverse}
 use Prim.Native.Nat.{ℕ, _+_}
@@ -7,8 +7,8 @@ use borrow.Author.Needs.{needs}
 use lib.ListN.{getD}
 use Rattle.octets.specs.Digits.{number}
 use Rattle.octets.proofs.{Numbers.Four, Numbers.below-four, Numbers.four-scaled, Slices.slice-read}
-use Rattle.body_reader.proofs.four_from.Statement.{statement}
-use Rattle.body_reader.proofs.four_from.Tie as tie
+use Rattle.samples.proofs.four_from.Statement.{statement}
+use Rattle.samples.proofs.four_from.Tie as tie
 
 -- the four that are read are bytes
 these : (c : tie.After-shared-slice-known4)
