@@ -1,4 +1,5 @@
--- Samples on their way from the cipher to the output: stored as they come, and turned once all are there.
+-- Samples on their way from the cipher to the output: stored as they come, and turned once all are there. Only functions
+-- inside of this crate promise something by these; what it promises to others does not name them.
 use Prim.Native.Nat.{ℕ, _/_, _%_}
 use mathlib.Core.List.{List, map}
 use lib.{IntN.ℤ, ListN.take}
