@@ -12,59 +12,106 @@ static void same(const void *left, const void *right, size_t bytes, const char *
         fail(what);
 }
 
-struct ciphers {
-    uint8_t library[SEMIVRAKH_CIPHER_BYTES];
-    struct own_trivium by_strides;
-    struct own_trivium by_clang;
-    struct own_trivium by_bits;
+/* ISO/IEC 29192-3, annex B.1. */
+static const struct {
+    uint8_t key[SEMIVRAKH_ENOCORO_KEY_BYTES], value[SEMIVRAKH_ENOCORO_VALUE_BYTES], keystream[32];
+} printed[] = {
+    { .keystream = { 0x63, 0xd7, 0xda, 0x6b, 0x55, 0x73, 0x7f, 0xcf, 0x57, 0x34, 0xb6, 0x77, 0x3a, 0xe7, 0x72, 0xe8,
+                     0xe6, 0x5c, 0xb3, 0xbd, 0xa0, 0x75, 0xe6, 0xb6, 0x94, 0x1c, 0xe3, 0xe5, 0xca, 0x28, 0x2a, 0x1e } },
+    { .value = { 0x00, 0x10, 0x20, 0x30, 0x40, 0x50, 0x60, 0x70 },
+      .key = { 0, 1, 2, 3, 4, 5, 6, 7, 8, 9, 10, 11, 12, 13, 14, 15 },
+      .keystream = { 0xc8, 0xc8, 0xee, 0x43, 0x3b, 0x0d, 0xc0, 0x40, 0xe5, 0x3b, 0xc5, 0x06, 0xea, 0x21, 0xad, 0x82,
+                     0x20, 0x05, 0x88, 0x89, 0xb7, 0xc8, 0x45, 0xb8, 0xfb, 0xbc, 0xfc, 0x26, 0x66, 0xd6, 0x5a, 0xce } },
+    { .value = { 0x80, 0x90, 0xa0, 0xb0, 0xc0, 0xd0, 0xe0, 0xf0 },
+      .key = { 15, 14, 13, 12, 11, 10, 9, 8, 7, 6, 5, 4, 3, 2, 1, 0 },
+      .keystream = { 0xf7, 0x73, 0xf9, 0xb4, 0x3f, 0x1c, 0xb2, 0x3c, 0xe4, 0x19, 0x8f, 0x11, 0x28, 0x89, 0x64, 0xa3,
+                     0xe1, 0x20, 0x2e, 0x6d, 0xea, 0x7d, 0xc8, 0x07, 0x7b, 0x5d, 0xb1, 0x5e, 0xcb, 0x67, 0xc8, 0x6e } },
+    { .value = { 0x10, 0x00, 0x10, 0x00, 0x10, 0x00, 0x10, 0x00 },
+      .key = { 1, 0, 1, 0, 1, 0, 1, 0, 1, 0, 1, 0, 1, 0, 1, 0 },
+      .keystream = { 0x6c, 0x1b, 0x26, 0x05, 0xd1, 0x97, 0xf7, 0x9f, 0xd4, 0x60, 0x4d, 0x13, 0x13, 0x93, 0x89, 0x2e,
+                     0x29, 0x6d, 0x5d, 0x50, 0xf7, 0xe6, 0x07, 0x10, 0xac, 0x62, 0x56, 0x01, 0xb3, 0xe6, 0x5e, 0xa6 } },
 };
 
-static void same_record(const uint8_t *library, const struct own_trivium *own)
+/* The own C alone: the library is held to it. */
+static void check_own_enocoro(void)
 {
-    uint8_t record[OWN_RECORD_BYTES];
-    own_record(own, record);
-    same(library, record, sizeof record, "the library leaves other registers than the own C");
+    static const uint8_t zeros[sizeof printed->keystream];
+    for (size_t at = 0; at < sizeof printed / sizeof *printed; at++) {
+        struct own_enocoro own;
+        uint8_t keystream[sizeof zeros];
+        own_enocoro_make(&own, printed[at].key, printed[at].value);
+        own_enocoro_encipher(&own, zeros, keystream, sizeof keystream);
+        same(keystream, printed[at].keystream, sizeof keystream,
+             "the own C of Enocoro gives another keystream than annex B.1");
+    }
+}
+
+/* A cipher's streams: the library's, and one for each engine of the own C. */
+struct streams {
+    const struct cipher *cipher;
+    uint8_t record[MOST_RECORD_BYTES];
+    union own_registers own[MOST_ENGINES];
+};
+
+static void same_records(const struct streams *streams)
+{
+    const struct cipher *cipher = streams->cipher;
+    for (size_t engine = 0; engine < cipher->engine_count; engine++) {
+        uint8_t record[MOST_RECORD_BYTES];
+        cipher->own_record(&streams->own[engine], record);
+        same(streams->record, record, cipher->record_bytes, "the library leaves other registers than the own C");
+    }
 }
 
 /* The next bytes of all streams. */
-static void check_stream(struct ciphers *ciphers, size_t bytes)
+static void check_next(struct streams *streams, size_t bytes)
 {
-    own_encipher_by_bits(&ciphers->by_bits, plain, expected, bytes);
-    own_encipher(&ciphers->by_strides, plain, sealed, bytes);
-    same(sealed, expected, bytes, "the own C's two engines give different bytes");
-    clang_encipher(&ciphers->by_clang, plain, sealed, bytes);
-    same(sealed, expected, bytes, "the own C gives different bytes by clang");
-    memset(sealed, 0, bytes);
-    if (semivrakh_cipher_encipher(ciphers->library, sizeof ciphers->library, plain, bytes, sealed, bytes) != SEMIVRAKH_OK)
+    const struct cipher *cipher = streams->cipher;
+    memset(expected, 0, bytes);
+    if (cipher->encipher(streams->record, cipher->record_bytes, plain, bytes, expected, bytes) != SEMIVRAKH_OK)
         fail("the library refused to encipher");
-    same(sealed, expected, bytes, "the library enciphers to other bytes than the own C");
-    same_record(ciphers->library, &ciphers->by_strides);
-    same_record(ciphers->library, &ciphers->by_clang);
-    same_record(ciphers->library, &ciphers->by_bits);
+    for (size_t engine = 0; engine < cipher->engine_count; engine++) {
+        cipher->engines[engine].encipher(&streams->own[engine], plain, sealed, bytes);
+        same(sealed, expected, bytes, "the library enciphers to other bytes than the own C");
+    }
+    same_records(streams);
+}
+
+static void make_streams(struct streams *streams)
+{
+    const struct cipher *cipher = streams->cipher;
+    if (cipher->make(streams->record, cipher->record_bytes, cipher->key, cipher->key_bytes, value, cipher->value_bytes)
+        != SEMIVRAKH_OK)
+        fail("the library refused to make a cipher");
+    for (size_t engine = 0; engine < cipher->engine_count; engine++)
+        cipher->own_make(&streams->own[engine], cipher->key, value);
+    same_records(streams);
 }
 
 /* Every length that ends differently in a stride, and those that are timed. */
-static void check_encipher(void)
+static void check_encipher(const struct cipher *cipher)
 {
-    struct ciphers ciphers;
-    own_make(&ciphers.by_strides, ring, value);
-    ciphers.by_bits = ciphers.by_clang = ciphers.by_strides;
-    if (semivrakh_cipher_make(ciphers.library, sizeof ciphers.library, ring, SEMIVRAKH_KEY_BYTES, value, sizeof value)
-        != SEMIVRAKH_OK)
-        fail("the library refused to make a cipher");
-    same_record(ciphers.library, &ciphers.by_strides);
+    struct streams streams = { .cipher = cipher };
+    make_streams(&streams);
     for (size_t bytes = 0; bytes < SMALLEST_BYTES; bytes++)
-        check_stream(&ciphers, bytes);
+        check_next(&streams, bytes);
     for (size_t bytes = SMALLEST_BYTES; bytes <= LARGEST_BYTES; bytes *= 2)
-        check_stream(&ciphers, bytes);
+        check_next(&streams, bytes);
 }
 
-static void check_pack(struct pack *pack, size_t sample_bytes)
+/* The front of the plain bytes under a cipher's first key and an initial value, by the own C, to `expected`. */
+static void expect(const struct cipher *cipher, const uint8_t *initial, size_t bytes)
 {
-    struct own_trivium own;
-    own_make(&own, ring, value);
-    own_encipher(&own, plain, expected, sample_bytes);
+    union own_registers own;
+    cipher->own_make(&own, cipher->key, initial);
+    cipher->engines[0].encipher(&own, plain, expected, bytes);
+}
+
+static void check_pack(const struct cipher *cipher, size_t sample_bytes)
+{
+    struct pack *pack = pack_of(cipher, sample_bytes);
     struct work seal = library_seal(pack), open = library_open(pack);
+    expect(cipher, value, sample_bytes);
     seal.once(seal.with);
     const size_t no_loops = 1; /* the count of loops, the file's last byte */
     same(pack->file + pack->length - no_loops - sample_bytes, expected, sample_bytes,
@@ -94,9 +141,7 @@ static void check_transfer(void)
     uint8_t session_value[SEMIVRAKH_VALUE_BYTES];
     memcpy(session_value, pair, sizeof pair);
     memcpy(session_value + sizeof pair, line.sender + SEMIVRAKH_SESSION_AT, sizeof session_value - sizeof pair);
-    struct own_trivium own;
-    own_make(&own, ring, session_value);
-    own_encipher(&own, plain, expected, SEMIVRAKH_SOUND_MOST);
+    expect(&ciphers[TRIVIUM], session_value, SEMIVRAKH_SOUND_MOST);
     const size_t block_front = SEMIVRAKH_FRAME_MOST - SEMIVRAKH_BLOCK_BYTES;
     same(line.frame + block_front, expected + SEMIVRAKH_SOUND_MOST - SEMIVRAKH_BLOCK_BYTES, SEMIVRAKH_BLOCK_BYTES,
          "the last block on the line is not the own C's bytes");
@@ -104,11 +149,18 @@ static void check_transfer(void)
         fail("the receiver has another length than the sound");
 }
 
+static void check_cipher(const struct cipher *cipher)
+{
+    check_encipher(cipher);
+    for (size_t bytes = SMALLEST_BYTES; bytes <= LARGEST_PACK_BYTES; bytes *= 2)
+        check_pack(cipher, bytes);
+}
+
 void check_library(void)
 {
-    check_encipher();
-    for (size_t bytes = SMALLEST_BYTES; bytes <= LARGEST_PACK_BYTES; bytes *= 2)
-        check_pack(pack_of(bytes), bytes);
+    check_own_enocoro();
+    for (size_t at = 0; at < CIPHERS; at++)
+        check_cipher(&ciphers[at]);
     check_transfer();
 }
 

@@ -16,8 +16,8 @@ static const double NO_AIM = 0;
 static const double OWN_AIM = 1.00;
 static const double PACK_AIM = 1.25;
 
-static const size_t BARE = BARE_BYTES;
 static const char ENCIPHER[] = "encipher 32,768 bytes";
+static const char MAKE_AND_ENCIPHER[] = "make a cipher and encipher 32,768 bytes";
 
 /* An aim is judged by the figure as it is printed, with the aim's two places. */
 static const char *verdict(double ratio, double aim)
@@ -27,9 +27,10 @@ static const char *verdict(double ratio, double aim)
 
 static int places(double ratio) { return ratio < 0.1 ? 3 : 2; }
 
-static void row(const char *first, const char *second, struct comparison c, double aim)
+/* The cipher is the library's: what others are held against is its too. */
+static void row(const struct cipher *cipher, const char *first, const char *second, struct comparison c, double aim)
 {
-    printf("%s\t%s\t%.*f\t%.2f\t", first, second, places(c.ratio), c.ratio, c.spread);
+    printf("%s\t%s\t%s\t%.*f\t%.2f\t", cipher->name, first, second, places(c.ratio), c.ratio, c.spread);
     if (aim == NO_AIM)
         printf("\t\n");
     else
@@ -37,10 +38,39 @@ static void row(const char *first, const char *second, struct comparison c, doub
     fflush(stdout);
 }
 
-static void pack_rows(const char *name, struct work work)
+static void engine_rows(const struct cipher *cipher)
 {
-    row(name, ENCIPHER, compare(work, library_encipher(&BARE)), PACK_AIM);
-    row(name, "make a cipher and encipher 32,768 bytes", compare(work, library_make_and_encipher(&BARE)), PACK_AIM);
+    struct stream bare = stream_of(cipher, BARE_BYTES);
+    for (size_t at = 0; at < cipher->engine_count; at++) {
+        const struct engine *engine = &cipher->engines[at];
+        bare.own = engine->encipher;
+        row(cipher, ENCIPHER, engine->name, compare(library_encipher(&bare), own_encipher_work(&bare)),
+            engine->is_of_the_same_design ? OWN_AIM : NO_AIM);
+    }
+}
+
+static void pack_rows(const struct cipher *cipher, const char *name, struct work work)
+{
+    struct stream bare = stream_of(cipher, BARE_BYTES);
+    row(cipher, name, ENCIPHER, compare(work, library_encipher(&bare)), PACK_AIM);
+    row(cipher, name, MAKE_AND_ENCIPHER, compare(work, library_make_and_encipher(&bare)), PACK_AIM);
+}
+
+static void cipher_rows(const struct cipher *cipher)
+{
+    struct pack *longest = pack_of(cipher, LARGEST_PACK_BYTES);
+    struct stream bare = stream_of(cipher, BARE_BYTES), made = bare;
+    engine_rows(cipher);
+    pack_rows(cipher, "open a pack of 16,384 samples", library_open(longest));
+    pack_rows(cipher, "seal a pack of 16,384 samples", library_seal(longest));
+    row(cipher, "make a cipher", ENCIPHER, compare(library_make(&made), library_encipher(&bare)), NO_AIM);
+}
+
+/* The row of something that isn't a work of one cipher alone, against Trivium, which the link is under. */
+static void row_against_trivium(const char *name, struct work work)
+{
+    struct stream bare = stream_of(&ciphers[TRIVIUM], BARE_BYTES);
+    row(&ciphers[TRIVIUM], name, ENCIPHER, compare(work, library_encipher(&bare)), NO_AIM);
 }
 
 static void encipher_by_peer(void *with) { ((const struct peer *)with)->encipher(plain, sealed, BARE_BYTES); }
@@ -49,27 +79,20 @@ static void peer_rows(const struct peer *peers, size_t count)
 {
     for (const struct peer *peer = peers; peer < peers + count; peer++) {
         if (peer->missing != NULL) {
-            printf("%s\tnot measured: %s\t\t\t\t\n", peer->name, peer->missing);
+            printf("\t%s\tnot measured: %s\t\t\t\t\n", peer->name, peer->missing);
             continue;
         }
         check_peer(peer);
-        struct work work = { encipher_by_peer, (void *)peer };
-        row(peer->name, ENCIPHER, compare(work, library_encipher(&BARE)), NO_AIM);
+        row_against_trivium(peer->name, (struct work){ encipher_by_peer, (void *)peer });
     }
 }
 
 static void print_ratios(void)
 {
-    struct work encipher = library_encipher(&BARE);
-    struct pack *longest = pack_of(LARGEST_PACK_BYTES);
-    printf("what\tagainst\tratio\tspread\taim\tverdict\n");
-    row(ENCIPHER, "own C, 64 bits a step, gcc -O3", compare(encipher, own_encipher_work(&BARE)), OWN_AIM);
-    row(ENCIPHER, "own C, 64 bits a step, clang -O3", compare(encipher, clang_encipher_work(&BARE)), OWN_AIM);
-    row(ENCIPHER, "own C, one bit a step, gcc -O3", compare(encipher, own_encipher_by_bits_work(&BARE)), NO_AIM);
-    pack_rows("open a pack of 16,384 samples", library_open(longest));
-    pack_rows("seal a pack of 16,384 samples", library_seal(longest));
-    row("link: 32,768 bytes, both ends", ENCIPHER, compare(library_transfer(), encipher), NO_AIM);
-    row("make a cipher", ENCIPHER, compare(library_make(), encipher), NO_AIM);
+    printf("cipher\twhat\tagainst\tratio\tspread\taim\tverdict\n");
+    for (size_t at = 0; at < CIPHERS; at++)
+        cipher_rows(&ciphers[at]);
+    row_against_trivium("link: 32,768 bytes, both ends", library_transfer());
     peer_rows(cryptopp_peers, cryptopp_peer_count);
     peer_rows(tomcrypt_peers, tomcrypt_peer_count);
 }
@@ -85,19 +108,35 @@ static double growth(struct work work, size_t bytes, struct work at_bare)
     return c.spread;
 }
 
-/* The spread of a row is the largest of its figures'. */
+static double encipher_growth(const struct cipher *cipher, size_t bytes)
+{
+    struct stream stream = stream_of(cipher, bytes), bare = stream_of(cipher, BARE_BYTES);
+    return growth(library_encipher(&stream), bytes, library_encipher(&bare));
+}
+
+static double pack_growth(const struct cipher *cipher, size_t bytes)
+{
+    if (bytes > LARGEST_PACK_BYTES) {
+        printf("\t\t");
+        return 0;
+    }
+    struct pack *pack = pack_of(cipher, bytes), *bare = pack_of(cipher, BARE_BYTES);
+    double of_opening = growth(library_open(pack), bytes, library_open(bare));
+    return larger(of_opening, growth(library_seal(pack), bytes, library_seal(bare)));
+}
+
 static void print_growth(void)
 {
-    struct pack *bare = pack_of(BARE_BYTES);
-    printf("bytes\tencipher\topen\tseal\tspread\n");
+    printf("bytes");
+    for (size_t at = 0; at < CIPHERS; at++)
+        printf("\t%s: encipher\topen\tseal", ciphers[at].name);
+    printf("\tspread\n");
     for (size_t bytes = SMALLEST_BYTES; bytes <= LARGEST_BYTES; bytes *= 2) {
+        double spread = 0; /* of a row: the largest of its figures' */
         printf("%zu", bytes);
-        double spread = growth(library_encipher(&bytes), bytes, library_encipher(&BARE));
-        if (bytes <= LARGEST_PACK_BYTES) {
-            spread = larger(spread, growth(library_open(pack_of(bytes)), bytes, library_open(bare)));
-            spread = larger(spread, growth(library_seal(pack_of(bytes)), bytes, library_seal(bare)));
-        } else {
-            printf("\t\t");
+        for (size_t at = 0; at < CIPHERS; at++) {
+            spread = larger(spread, encipher_growth(&ciphers[at], bytes));
+            spread = larger(spread, pack_growth(&ciphers[at], bytes));
         }
         printf("\t%.2f\n", spread);
     }
@@ -105,9 +144,12 @@ static void print_growth(void)
 
 static void print_speed(void)
 {
-    struct comparison c = compare(library_encipher(&BARE), own_encipher_work(&BARE));
-    printf("32,768 bytes are enciphered in %.1f microseconds, %.0f million bytes a second.\n", c.seconds * 1e6,
-           BARE_BYTES / c.seconds / 1e6);
+    for (size_t at = 0; at < CIPHERS; at++) {
+        struct stream bare = stream_of(&ciphers[at], BARE_BYTES);
+        struct comparison c = compare(library_encipher(&bare), own_encipher_work(&bare));
+        printf("32,768 bytes are enciphered under %s in %.1f microseconds, %.0f million bytes a second.\n",
+               ciphers[at].name, c.seconds * 1e6, BARE_BYTES / c.seconds / 1e6);
+    }
 }
 
 static const struct {

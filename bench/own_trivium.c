@@ -1,24 +1,9 @@
 #include "own_trivium.h"
 
-#include <string.h>
-
 enum { WARM_UP_STEPS = 1152, STEPS_A_STRIDE = 64, STRIDE_BYTES = 8 };
 
 /* How many bits of a register stand in its word 1. */
 enum { A_UPPER_BITS = 93 - 64, B_UPPER_BITS = 84 - 64, C_UPPER_BITS = 111 - 64 };
-
-static uint64_t load_word(const uint8_t *bytes)
-{
-    uint64_t word;
-    memcpy(&word, bytes, sizeof word);
-    return __builtin_bswap64(word);
-}
-
-static void store_word(uint8_t *bytes, uint64_t word)
-{
-    word = __builtin_bswap64(word);
-    memcpy(bytes, &word, sizeof word);
-}
 
 static uint64_t lowest(uint64_t word, int bits) { return word & ((UINT64_C(1) << bits) - 1); }
 
@@ -61,7 +46,7 @@ static unsigned step(struct own_trivium *t)
     return (from_a ^ from_b ^ from_c) & 1;
 }
 
-void own_make(struct own_trivium *cipher, const uint8_t key[OWN_KEY_BYTES], const uint8_t value[OWN_VALUE_BYTES])
+void own_trivium_make(void *cipher, const uint8_t *key, const uint8_t *value)
 {
     struct own_trivium t = {
         (uint64_t)key[0] << 8 | key[1], load_word(key + 2),
@@ -70,37 +55,38 @@ void own_make(struct own_trivium *cipher, const uint8_t key[OWN_KEY_BYTES], cons
     };
     for (int done = 0; done < WARM_UP_STEPS; done += STEPS_A_STRIDE)
         stride(&t);
-    *cipher = t;
+    *(struct own_trivium *)cipher = t;
 }
 
-void own_encipher(struct own_trivium *cipher, const uint8_t *input, uint8_t *output, size_t count)
+void own_trivium_encipher(void *cipher, const uint8_t *input, uint8_t *output, size_t count)
 {
-    struct own_trivium t = *cipher; /* a copy, so that the registers can stay in the processor's */
+    struct own_trivium t = *(struct own_trivium *)cipher; /* a copy, so that it can stay in the processor's registers */
     size_t at = 0;
     for (; count - at >= STRIDE_BYTES; at += STRIDE_BYTES)
         store_word(output + at, load_word(input + at) ^ stride(&t));
-    *cipher = t;
-    own_encipher_by_bits(cipher, input + at, output + at, count - at);
+    *(struct own_trivium *)cipher = t;
+    own_trivium_encipher_by_bits(cipher, input + at, output + at, count - at);
 }
 
-void own_encipher_by_bits(struct own_trivium *cipher, const uint8_t *input, uint8_t *output, size_t count)
+void own_trivium_encipher_by_bits(void *cipher, const uint8_t *input, uint8_t *output, size_t count)
 {
-    struct own_trivium t = *cipher;
+    struct own_trivium t = *(struct own_trivium *)cipher;
     for (size_t at = 0; at < count; at++) {
         unsigned keystream = 0;
         for (int bits = 0; bits < 8; bits++)
             keystream = keystream << 1 | step(&t);
         output[at] = (uint8_t)(input[at] ^ keystream);
     }
-    *cipher = t;
+    *(struct own_trivium *)cipher = t;
 }
 
-void own_record(const struct own_trivium *cipher, uint8_t record[OWN_RECORD_BYTES])
+void own_trivium_record(const void *cipher, uint8_t *record)
 {
-    store_word(record, lowest(cipher->a1, A_UPPER_BITS));
-    store_word(record + 8, cipher->a0);
-    store_word(record + 16, lowest(cipher->b1, B_UPPER_BITS));
-    store_word(record + 24, cipher->b0);
-    store_word(record + 32, lowest(cipher->c1, C_UPPER_BITS));
-    store_word(record + 40, cipher->c0);
+    const struct own_trivium *t = cipher;
+    store_word(record, lowest(t->a1, A_UPPER_BITS));
+    store_word(record + 8, t->a0);
+    store_word(record + 16, lowest(t->b1, B_UPPER_BITS));
+    store_word(record + 24, t->b0);
+    store_word(record + 32, lowest(t->c1, C_UPPER_BITS));
+    store_word(record + 40, t->c0);
 }

@@ -3,16 +3,8 @@
 #include <stdio.h>
 #include <stdlib.h>
 
-/* Any bytes would do: no call's time depends on what they are. */
-const uint8_t ring[SEMIVRAKH_RING_BYTES] = {
-    0x0f, 0x62, 0xb5, 0x08, 0x5b, 0xae, 0x01, 0x54, 0xa7, 0xfa, 0x4d, 0xa0, 0xf3, 0x46, 0x99, 0xec, 0x3f, 0x92, 0xe5, 0x38,
-    0x8b, 0xde, 0x31, 0x84, 0xd7, 0x2a, 0x7d, 0xd0, 0x23, 0x76, 0xc9, 0x1c, 0x6f, 0xc2, 0x15, 0x68, 0xbb, 0x0e, 0x61, 0xb4,
-};
-const uint8_t value[SEMIVRAKH_VALUE_BYTES] = { 0x28, 0x8f, 0xf6, 0x5d, 0xc4, 0x2b, 0x92, 0xf9, 0x60, 0xc7 };
 const uint8_t pair[SEMIVRAKH_PAIR_BYTES] = { 'd', 'e', 's', 'k', ' ', '1' };
 static const uint8_t name[] = { 'C', 'h', 'o', 'i', 'r' };
-
-enum { KEY_NUMBER = 0 }; /* so the key in use is the ring's front */
 
 uint8_t plain[LARGEST_BYTES];
 uint8_t sealed[LARGEST_BYTES];
@@ -20,10 +12,7 @@ int16_t samples[SEMIVRAKH_SAMPLES_MOST];
 int16_t opened[SEMIVRAKH_SAMPLES_MOST];
 struct line line;
 
-static struct pack packs[PACK_SIZES];
-static uint8_t cipher[SEMIVRAKH_CIPHER_BYTES];
-static uint8_t made_cipher[SEMIVRAKH_CIPHER_BYTES];
-static struct own_trivium own_cipher;
+static struct pack packs[CIPHERS][PACK_SIZES];
 
 void fail(const char *what)
 {
@@ -37,43 +26,48 @@ static void accepted(uint8_t no)
         fail("the library refused a call");
 }
 
-static void make(uint8_t *record)
+static void make_once(void *with)
 {
-    accepted(semivrakh_cipher_make(record, SEMIVRAKH_CIPHER_BYTES, ring, SEMIVRAKH_KEY_BYTES, value, sizeof value));
+    struct stream *stream = with;
+    const struct cipher *cipher = stream->cipher;
+    accepted(cipher->make(stream->record, cipher->record_bytes, cipher->key, cipher->key_bytes, value,
+                          cipher->value_bytes));
 }
 
-static void encipher(uint8_t *record, size_t bytes)
+static void encipher_once(void *with)
 {
-    accepted(semivrakh_cipher_encipher(record, SEMIVRAKH_CIPHER_BYTES, plain, bytes, sealed, bytes));
+    struct stream *stream = with;
+    accepted(stream->cipher->encipher(stream->record, stream->cipher->record_bytes, plain, stream->bytes,
+                                      sealed, stream->bytes));
 }
 
-static void encipher_once(void *bytes) { encipher(cipher, *(const size_t *)bytes); }
-
-static void make_once(void *nothing)
+static void make_and_encipher_once(void *stream)
 {
-    (void)nothing;
-    make(made_cipher);
+    make_once(stream);
+    encipher_once(stream);
 }
 
-static void make_and_encipher_once(void *bytes)
+static void own_encipher_once(void *with)
 {
-    make(made_cipher);
-    encipher(made_cipher, *(const size_t *)bytes);
+    struct stream *stream = with;
+    stream->own(&stream->registers, plain, sealed, stream->bytes);
 }
 
 static void open_once(void *with)
 {
     const struct pack *pack = with;
     size_t answer[SEMIVRAKH_OPENED_NUMBERS];
-    accepted(semivrakh_pack_open(pack->file, pack->length, ring, sizeof ring, opened, SEMIVRAKH_SAMPLES_MOST,
+    accepted(semivrakh_pack_open(pack->file, pack->length, keys, sizeof keys, opened, SEMIVRAKH_SAMPLES_MOST,
                                  answer, SEMIVRAKH_OPENED_NUMBERS));
 }
 
 static void seal_once(void *with)
 {
     struct pack *pack = with;
-    accepted(semivrakh_pack_seal(name, sizeof name, ring, sizeof ring, KEY_NUMBER, value, sizeof value,
-                                 samples, pack->sample_count, NULL, 0, pack->file, sizeof pack->file, &pack->length));
+    const struct cipher *cipher = pack->cipher;
+    accepted(semivrakh_pack_seal(name, sizeof name, keys, sizeof keys, cipher->number, KEY_NUMBER,
+                                 value, cipher->value_bytes, samples, pack->sample_count, NULL, 0,
+                                 pack->file, sizeof pack->file, &pack->length));
 }
 
 static int under_way(void)
@@ -101,15 +95,6 @@ static void transfer_once(void *nothing)
         undisturbed_round();
 }
 
-static void own_encipher_once(void *bytes) { own_encipher(&own_cipher, plain, sealed, *(const size_t *)bytes); }
-
-static void clang_encipher_once(void *bytes) { clang_encipher(&own_cipher, plain, sealed, *(const size_t *)bytes); }
-
-static void own_encipher_by_bits_once(void *bytes)
-{
-    own_encipher_by_bits(&own_cipher, plain, sealed, *(const size_t *)bytes);
-}
-
 static void fill_buffers(void)
 {
     uint32_t state = 1;
@@ -123,39 +108,50 @@ static void fill_buffers(void)
 
 static void make_ends(void)
 {
-    accepted(semivrakh_sender_make(line.sender, sizeof line.sender, ring, SEMIVRAKH_KEY_BYTES, pair, sizeof pair));
-    accepted(semivrakh_receiver_make(line.receiver, sizeof line.receiver, ring, SEMIVRAKH_KEY_BYTES, pair, sizeof pair));
+    const uint8_t *key = ciphers[TRIVIUM].key;
+    accepted(semivrakh_sender_make(line.sender, sizeof line.sender, key, SEMIVRAKH_KEY_BYTES, pair, sizeof pair));
+    accepted(semivrakh_receiver_make(line.receiver, sizeof line.receiver, key, SEMIVRAKH_KEY_BYTES, pair, sizeof pair));
 }
 
-void prepare(void)
+static void seal_packs(const struct cipher *cipher)
 {
-    fill_buffers();
-    make(cipher);
-    own_make(&own_cipher, ring, value);
-    make_ends();
     for (size_t bytes = SMALLEST_BYTES; bytes <= LARGEST_PACK_BYTES; bytes *= 2) {
-        struct pack *pack = pack_of(bytes);
+        struct pack *pack = pack_of(cipher, bytes);
+        pack->cipher = cipher;
         pack->sample_count = bytes / SAMPLE_BYTES;
         seal_once(pack);
     }
 }
 
-struct pack *pack_of(size_t sample_bytes)
+void prepare(void)
 {
-    struct pack *pack = packs;
+    fill_buffers();
+    make_ends();
+    for (size_t at = 0; at < CIPHERS; at++)
+        seal_packs(&ciphers[at]);
+}
+
+struct stream stream_of(const struct cipher *cipher, size_t bytes)
+{
+    struct stream stream = { .cipher = cipher, .bytes = bytes, .own = cipher->engines[0].encipher };
+    make_once(&stream);
+    cipher->own_make(&stream.registers, cipher->key, value);
+    return stream;
+}
+
+struct pack *pack_of(const struct cipher *cipher, size_t sample_bytes)
+{
+    struct pack *pack = packs[cipher - ciphers];
     for (size_t bytes = SMALLEST_BYTES; bytes < sample_bytes; bytes *= 2)
         pack++;
     return pack;
 }
 
-struct work library_encipher(const size_t *bytes) { return (struct work){ encipher_once, (void *)bytes }; }
+struct work library_encipher(struct stream *stream) { return (struct work){ encipher_once, stream }; }
 
-struct work library_make(void) { return (struct work){ make_once, NULL }; }
+struct work library_make(struct stream *stream) { return (struct work){ make_once, stream }; }
 
-struct work library_make_and_encipher(const size_t *bytes)
-{
-    return (struct work){ make_and_encipher_once, (void *)bytes };
-}
+struct work library_make_and_encipher(struct stream *stream) { return (struct work){ make_and_encipher_once, stream }; }
 
 struct work library_open(struct pack *pack) { return (struct work){ open_once, pack }; }
 
@@ -163,11 +159,4 @@ struct work library_seal(struct pack *pack) { return (struct work){ seal_once, p
 
 struct work library_transfer(void) { return (struct work){ transfer_once, NULL }; }
 
-struct work own_encipher_work(const size_t *bytes) { return (struct work){ own_encipher_once, (void *)bytes }; }
-
-struct work clang_encipher_work(const size_t *bytes) { return (struct work){ clang_encipher_once, (void *)bytes }; }
-
-struct work own_encipher_by_bits_work(const size_t *bytes)
-{
-    return (struct work){ own_encipher_by_bits_once, (void *)bytes };
-}
+struct work own_encipher_work(struct stream *stream) { return (struct work){ own_encipher_once, stream }; }

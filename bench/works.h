@@ -2,12 +2,8 @@
 #ifndef WORKS_H
 #define WORKS_H
 
-#include "own_trivium.h"
-#include "semivrakh.h"
+#include "ciphers.h"
 #include "timing.h"
-
-#include <stddef.h>
-#include <stdint.h>
 
 enum {
     BARE_BYTES = 32768, /* what the rows of ratios encipher */
@@ -20,8 +16,6 @@ enum {
 
 _Static_assert(SMALLEST_BYTES << (PACK_SIZES - 1) == LARGEST_PACK_BYTES, "one pack size for each doubling");
 
-extern const uint8_t ring[SEMIVRAKH_RING_BYTES];
-extern const uint8_t value[SEMIVRAKH_VALUE_BYTES];
 extern const uint8_t pair[SEMIVRAKH_PAIR_BYTES];
 
 extern uint8_t plain[LARGEST_BYTES];
@@ -29,7 +23,17 @@ extern uint8_t sealed[LARGEST_BYTES];
 extern int16_t samples[SEMIVRAKH_SAMPLES_MOST]; /* the front of `plain` as sound */
 extern int16_t opened[SEMIVRAKH_SAMPLES_MOST];
 
+/* So many bytes at a time under one cipher. Library and own C each go on in a stream of their own from call to call. */
+struct stream {
+    const struct cipher *cipher;
+    size_t bytes;
+    own_encipher *own; /* the engine of the own C */
+    uint8_t record[MOST_RECORD_BYTES];
+    union own_registers registers;
+};
+
 struct pack {
+    const struct cipher *cipher;
     size_t sample_count;
     size_t length;
     uint8_t file[SEMIVRAKH_PACK_MOST];
@@ -50,21 +54,22 @@ extern struct line line;
 /* Ends the program with what went wrong. */
 _Noreturn void fail(const char *what);
 
-/* Fills the buffers, makes the ciphers and both ends of the link, and seals a pack of each size. */
+/* Fills the buffers, makes both ends of the link, and seals a pack of each size under each cipher. */
 void prepare(void);
 
-/* The pack with so many bytes of samples, one of the PACK_SIZES. */
-struct pack *pack_of(size_t sample_bytes);
+/* A stream from its first byte on, by the cipher's first engine. */
+struct stream stream_of(const struct cipher *cipher, size_t bytes);
 
-/* Each work goes on in its own stream from call to call. What it is given must live as long as it. */
-struct work library_encipher(const size_t *bytes);
-struct work library_make(void);
-struct work library_make_and_encipher(const size_t *bytes);
+/* The cipher's pack with so many bytes of samples, one of the PACK_SIZES. */
+struct pack *pack_of(const struct cipher *cipher, size_t sample_bytes);
+
+/* What a work is given must live as long as it. */
+struct work library_encipher(struct stream *stream);
+struct work library_make(struct stream *stream);
+struct work library_make_and_encipher(struct stream *stream);
 struct work library_open(struct pack *pack);
 struct work library_seal(struct pack *pack);
 struct work library_transfer(void);
-struct work own_encipher_work(const size_t *bytes);
-struct work clang_encipher_work(const size_t *bytes);
-struct work own_encipher_by_bits_work(const size_t *bytes);
+struct work own_encipher_work(struct stream *stream);
 
 #endif

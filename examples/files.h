@@ -79,10 +79,25 @@ static inline void write_file(const char *path, const uint8_t *bytes, size_t len
     if (fclose(file) != 0 || written != length) stop("%s cannot be written: %s", path, strerror(errno));
 }
 
-_Noreturn static inline void refused_ring(uint8_t no, const struct file *ring)
+_Noreturn static inline void refused_keys(uint8_t no, const struct file *keys)
 {
-    refused(no, "%s has %zu bytes, and a ring of keys has %d", ring->path, ring->length, SEMIVRAKH_RING_BYTES);
+    refused(no, "%s has %zu bytes, and the keys of both ciphers have %d", keys->path, keys->length,
+            SEMIVRAKH_KEYS_BYTES);
 }
+
+/* A cipher that a pack may be under. */
+struct cipher {
+    const char *name;
+    uint8_t key_count; /* it tells the cipher, in a file and to sealing */
+    size_t value_bytes;
+};
+
+static const struct cipher ciphers[] = {
+    {"trivium", SEMIVRAKH_TRIVIUM, SEMIVRAKH_VALUE_BYTES},
+    {"enocoro", SEMIVRAKH_ENOCORO, SEMIVRAKH_ENOCORO_VALUE_BYTES},
+};
+
+enum { CIPHERS = sizeof ciphers / sizeof ciphers[0] };
 
 /* Room for so many things, all zeros. */
 static inline void *room_for(size_t count, size_t size)

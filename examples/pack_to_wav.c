@@ -1,12 +1,13 @@
 /*
- * Opens a sealed pack and writes its sound as a WAV file: mono, 16 bits, PCM. The pack's loops go to a 'smpl' chunk,
- * where a sampler finds them.
+ * Opens a sealed pack, under the cipher that it says, and writes its sound as a WAV file: mono, 16 bits, PCM. The
+ * pack's loops go to a 'smpl' chunk, where a sampler finds them.
  */
 #include "files.h"
 
 static const char usage[] =
     "usage: pack_to_wav KEYS PACK OUT.wav [RATE]\n"
-    "  KEYS  a file of 40 bytes, four keys of ten bytes each\n"
+    "  KEYS  a file of 104 bytes: four keys of ten bytes each, for trivium, then four of 16 bytes each, for enocoro.\n"
+    "        The pack says which one it is under; all others may be zeros\n"
     "  RATE  samples a second, 44100 if it is not given: a pack does not say";
 
 enum {
@@ -109,12 +110,20 @@ _Noreturn static void refused_pack(uint8_t no, const struct file *pack)
             missing == 1 ? "is" : "are");
 }
 
+/* The name of the cipher that an accepted pack is under: its key count stands two bytes before its initial value. */
+static const char *cipher_of(const struct file *pack, size_t value_at)
+{
+    size_t i = 0;
+    while (i + 1 < CIPHERS && ciphers[i].key_count != pack->bytes[value_at - 2]) i++;
+    return ciphers[i].name;
+}
+
 int main(int words, char **word)
 {
     if (words != 4 && words != 5) stop("%s", usage);
     uint32_t rate = words == 5 ? number_of(word[4], "RATE", 1, RATE_MOST) : RATE_USUAL;
 
-    struct file ring = read_file(word[1]);
+    struct file keys = read_file(word[1]);
     struct file pack = read_file(word[2]);
     size_t answer[SEMIVRAKH_OPENED_NUMBERS];
     uint8_t no = semivrakh_pack_survey(pack.bytes, pack.length, answer, SEMIVRAKH_OPENED_NUMBERS);
@@ -122,9 +131,9 @@ int main(int words, char **word)
 
     size_t sample_count = answer[SEMIVRAKH_OPENED_SAMPLES];
     int16_t *samples = room_for(sample_count, sizeof *samples);
-    no = semivrakh_pack_open(pack.bytes, pack.length, ring.bytes, ring.length, samples, sample_count, answer,
+    no = semivrakh_pack_open(pack.bytes, pack.length, keys.bytes, keys.length, samples, sample_count, answer,
                              SEMIVRAKH_OPENED_NUMBERS);
-    if (no != SEMIVRAKH_OK) refused_ring(no, &ring); /* the pack is in order and its samples have room */
+    if (no != SEMIVRAKH_OK) refused_keys(no, &keys); /* the pack is in order and its samples have room */
 
     uint32_t loops[2 * SEMIVRAKH_LOOPS_MOST];
     size_t loop_numbers;
@@ -138,6 +147,7 @@ int main(int words, char **word)
 
     const char *name = (const char *)pack.bytes + answer[SEMIVRAKH_OPENED_NAME_AT];
     printf("name %.*s\n", (int)answer[SEMIVRAKH_OPENED_NAME_LENGTH], name);
+    printf("cipher %s\n", cipher_of(&pack, answer[SEMIVRAKH_OPENED_VALUE_AT]));
     printf("key %zu\n", answer[SEMIVRAKH_OPENED_KEY]);
     printf("samples %zu\n", sample_count);
     printf("loops %zu\n", loop_count);
@@ -145,6 +155,6 @@ int main(int words, char **word)
     printf("seconds %.3f\n", (double)sample_count / rate);
     free(samples);
     free(pack.bytes);
-    free(ring.bytes);
+    free(keys.bytes);
     return 0;
 }

@@ -1,6 +1,7 @@
 /*
- * Seals the sound of a WAV file, mono, 16 bits, PCM, as a pack. The loops of a 'smpl' chunk go with it; the rate does
- * not, for a pack has none. Files of the extensible format are read too, and files that were written to a pipe.
+ * Seals the sound of a WAV file, mono, 16 bits, PCM, as a pack under either cipher. The loops of a 'smpl' chunk go with
+ * it; the rate does not, for a pack has none. Files of the extensible format are read too, and files that were written
+ * to a pipe.
  *
  * A WAV file may have samples of -32768, and a pack may not: an instrument negates samples, and this one has no
  * opposite. The sound is sealed as it is or not at all, unless the user says --raise.
@@ -8,12 +9,15 @@
 #include "files.h"
 
 static const char usage[] =
-    "usage: wav_to_pack [--raise] KEYS KEY_NUMBER VALUE_HEX NAME IN.wav OUT.pack\n"
+    "usage: wav_to_pack [--cipher trivium|enocoro] [--raise] KEYS KEY_NUMBER VALUE_HEX NAME IN.wav OUT.pack\n"
+    "  --cipher    the cipher that the pack is under, trivium if it is not said\n"
     "  --raise     seals samples of -32768, which a pack does not hold, as -32767, and prints how many there were\n"
-    "  KEYS        a file of 40 bytes, four keys of ten bytes each\n"
-    "  KEY_NUMBER  which of them, 0 to 3\n"
-    "  VALUE_HEX   the initial value, ten bytes as 20 hex digits. It must never be used twice under a key: two packs\n"
-    "              that share both give their sounds away to anyone who has the two files\n"
+    "  KEYS        a file of 104 bytes: four keys of ten bytes each, for trivium, then four of 16 bytes each, for\n"
+    "              enocoro; those that are not used may be zeros\n"
+    "  KEY_NUMBER  which of the cipher's keys, 0 to 3\n"
+    "  VALUE_HEX   the initial value: for trivium ten bytes as 20 hex digits, for enocoro eight bytes as 16.\n"
+    "              It must never be used twice under a key: two packs that share both give their sounds away to\n"
+    "              anyone who has the two files\n"
     "  NAME        up to 32 letters, digits, spaces and signs of ASCII";
 
 enum {
@@ -196,14 +200,16 @@ static int hex_digit(char letter)
     return place == NULL ? -1 : (int)(place - digits) % 16;
 }
 
-/* Whether it has ten bytes is for the library to say. */
-static size_t read_value(const char *hex, uint8_t value[VALUE_ROOM])
+/* Whether it has as many bytes as its cipher wants is for the library to say. */
+static size_t read_value(const char *hex, const struct cipher *cipher, uint8_t value[VALUE_ROOM])
 {
-    size_t digits = strlen(hex);
-    if (digits % 2 != 0 || digits > 2 * VALUE_ROOM) stop("VALUE_HEX is 20 hex digits, and '%s' has %zu", hex, digits);
+    size_t digits = strlen(hex), wanted = 2 * cipher->value_bytes;
+    if (digits % 2 != 0 || digits > 2 * VALUE_ROOM)
+        stop("VALUE_HEX is %zu hex digits for %s, and '%s' has %zu", wanted, cipher->name, hex, digits);
     for (size_t i = 0; i < digits; i += 2) {
         int high = hex_digit(hex[i]), low = hex_digit(hex[i + 1]);
-        if (high < 0 || low < 0) stop("VALUE_HEX is 20 hex digits, and '%s' has others", hex);
+        if (high < 0 || low < 0)
+            stop("VALUE_HEX is %zu hex digits for %s, and '%s' has others", wanted, cipher->name, hex);
         value[i / 2] = (uint8_t)(16 * high + low);
     }
     return digits / 2;
@@ -217,9 +223,39 @@ static uint8_t read_key_number(const char *text)
     return (uint8_t)number;
 }
 
+static const struct cipher *read_cipher(const char *name)
+{
+    for (size_t i = 0; i < CIPHERS; i++)
+        if (strcmp(ciphers[i].name, name) == 0) return &ciphers[i];
+    stop("--cipher is trivium or enocoro, not '%s'", name);
+}
+
+struct options {
+    bool raises;
+    const struct cipher *cipher;
+    int words; /* how many they take */
+};
+
+/* Options stand before all other words, in any order. */
+static struct options read_options(int words, char **word)
+{
+    struct options options = {.cipher = &ciphers[0]};
+    for (;;) {
+        int at = 1 + options.words;
+        if (at < words && strcmp(word[at], "--raise") == 0) {
+            options.raises = true;
+            options.words += 1;
+        } else if (at + 1 < words && strcmp(word[at], "--cipher") == 0) {
+            options.cipher = read_cipher(word[at + 1]);
+            options.words += 2;
+        } else return options;
+    }
+}
+
 /* All that sealing is given. */
 struct order {
-    struct file ring;
+    struct file keys;
+    const struct cipher *cipher;
     uint8_t key_number;
     uint8_t value[VALUE_ROOM];
     size_t value_length;
@@ -255,16 +291,18 @@ _Noreturn static void refused_lowest(uint8_t no, const struct order *order)
 _Noreturn static void refused_order(uint8_t no, const struct order *order)
 {
     switch (no) {
-    case SEMIVRAKH_BAD_KEY: refused_ring(no, &order->ring);
+    case SEMIVRAKH_BAD_KEY: refused_keys(no, &order->keys);
     case SEMIVRAKH_BAD_NAME: refused_name(no, order->name);
     case SEMIVRAKH_BAD_LOOP: refused_loop(no, order);
     case SEMIVRAKH_LOWEST_SAMPLE: refused_lowest(no, order);
     case SEMIVRAKH_LONG_NAME:
         refused(no, "NAME has %zu bytes, and a pack's name at most %d", strlen(order->name), SEMIVRAKH_NAME_MOST);
     case SEMIVRAKH_BAD_VALUE:
-        refused(no, "VALUE_HEX has %zu bytes, and an initial value has %d", order->value_length, SEMIVRAKH_VALUE_BYTES);
+        refused(no, "VALUE_HEX has %zu bytes, and an initial value for %s has %zu", order->value_length,
+                order->cipher->name, order->cipher->value_bytes);
     case SEMIVRAKH_BAD_KEY_NUMBER:
-        refused(no, "KEY_NUMBER is %d, and %s has the keys 0 to 3", order->key_number, order->ring.path);
+        refused(no, "KEY_NUMBER is %d, and %s has the keys 0 to 3 for %s", order->key_number, order->keys.path,
+                order->cipher->name);
     case SEMIVRAKH_MANY_SAMPLES:
         refused(no, "%s has %zu samples, and a pack holds at most %d", order->wav_path, order->sound.sample_count,
                 SEMIVRAKH_SAMPLES_MOST);
@@ -277,29 +315,29 @@ _Noreturn static void refused_order(uint8_t no, const struct order *order)
 
 int main(int words, char **word)
 {
-    bool raises = words > 1 && strcmp(word[1], "--raise") == 0;
-    words -= raises;
-    word += raises; /* so the words behind the option have their usual places */
+    struct options options = read_options(words, word);
+    words -= options.words;
+    word += options.words; /* so the words behind the options have their usual places */
     if (words != 7) stop("%s", usage);
-    struct order order = {.ring = read_file(word[1]), .key_number = read_key_number(word[2]), .name = word[4],
-                          .wav_path = word[5]};
-    order.value_length = read_value(word[3], order.value);
+    struct order order = {.keys = read_file(word[1]), .cipher = options.cipher, .key_number = read_key_number(word[2]),
+                          .name = word[4], .wav_path = word[5]};
+    order.value_length = read_value(word[3], order.cipher, order.value);
     struct sound *sound = &order.sound;
     read_wav(order.wav_path, sound);
-    size_t raised = raises ? raise_lowest(sound) : 0;
+    size_t raised = options.raises ? raise_lowest(sound) : 0;
 
     static uint8_t pack[SEMIVRAKH_PACK_MOST];
     size_t pack_length;
-    uint8_t no = semivrakh_pack_seal((const uint8_t *)order.name, strlen(order.name), order.ring.bytes,
-                                     order.ring.length, order.key_number, order.value, order.value_length,
-                                     sound->samples, sound->sample_count, sound->loops, 2 * sound->loop_count,
-                                     pack, sizeof pack, &pack_length);
+    uint8_t no = semivrakh_pack_seal((const uint8_t *)order.name, strlen(order.name), order.keys.bytes,
+                                     order.keys.length, order.cipher->key_count, order.key_number, order.value,
+                                     order.value_length, sound->samples, sound->sample_count, sound->loops,
+                                     2 * sound->loop_count, pack, sizeof pack, &pack_length);
     if (no != SEMIVRAKH_OK) refused_order(no, &order);
     write_file(word[6], pack, pack_length);
     printf("samples %zu\nloops %zu\nbytes %zu\n", sound->sample_count, sound->loop_count, pack_length);
-    if (raises) printf("raised %zu\n", raised);
+    if (options.raises) printf("raised %zu\n", raised);
     free(sound->samples);
     free(sound->loops);
-    free(order.ring.bytes);
+    free(order.keys.bytes);
     return 0;
 }

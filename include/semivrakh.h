@@ -1,5 +1,6 @@
 /*
- * semivrakh.h: sealed sound packs under the stream cipher Trivium, and the two ends of the sound link.
+ * semivrakh.h: sealed sound packs under the stream ciphers Trivium and Enocoro-128v2, and the two ends of the sound link,
+ * which is under Trivium.
  *
  * Every function below is proved: it takes every input, ends, and answers exactly what its definition says.
  *
@@ -34,7 +35,8 @@
  *   A cipher, a sender and a receiver are runs of bytes that the caller keeps. They may be stored, copied and sent;
  *   they hold keys, so keep them as you keep keys. Numbers in them have their most significant byte first. Making
  *   writes a record to the front of any buffer that is long enough; every other call wants exactly the record's length,
- *   and refuses bytes that are no record, enciphering with 3 and the link's calls with 27.
+ *   and refuses bytes that are no record, enciphering with 3 and the link's calls with 27. A record doesn't say what it
+ *   is of: Trivium's and Enocoro's differ in length alone.
  *
  *   Look at what making answers. A refused making leaves the buffer as it was, and what was in it may well be taken for
  *   a record.
@@ -42,6 +44,8 @@
  *   Cipher, 48 bytes: the registers a (93 bits), b (84) and c (111), each in 16 bytes as one number, its newest bit the
  *   lowest. The bits above a register are ignored, and come back zero from a call that isn't refused; so every 48
  *   bytes are a cipher, 48 zeros too: their keystream is all zeros, and they encipher nothing.
+ *
+ *   Enocoro, 34 bytes: the two bytes a, a0 first, then the 32 bytes b, b0 first. Every 34 bytes are such a cipher.
  *
  *   Sender, 27 bytes:
  *      0  key, 10 bytes
@@ -62,6 +66,14 @@
  *   It is out of rule (27) with another length, with a session of 0 and a length or count that isn't 0, or with more
  *   blocks held than the sound has.
  *
+ * Keys
+ *
+ *   A caller holds four keys for each cipher that packs may be under, and lends all of them as one run of 104 bytes:
+ *      0  four keys of Trivium, 10 bytes each
+ *     40  four keys of Enocoro, 16 bytes each
+ *   A pack says by its key count which cipher it is under, 11 for Trivium and 9 for Enocoro, and by its key number which
+ *   of that cipher's four keys is its own. Keys that no pack is under may be zeros.
+ *
  * An example: a cipher, and a stream in two calls
  *
  *     uint8_t cipher[SEMIVRAKH_CIPHER_BYTES];
@@ -79,18 +91,18 @@
 extern "C" {
 #endif
 
-/* The version of this header, 0.5.0: ten thousand times its first number, a hundred times its second, and its third. */
-#define SEMIVRAKH_VERSION 500
+/* The version of this header, 0.6.0: ten thousand times its first number, a hundred times its second, and its third. */
+#define SEMIVRAKH_VERSION 600
 
 /* The numbers for no. */
 enum {
     SEMIVRAKH_OK = 0,
-    SEMIVRAKH_BAD_KEY = 1,         /* key not 10 bytes, or ring not 40 */
-    SEMIVRAKH_BAD_VALUE = 2,       /* initial value not 10 bytes, or pair name not 6 */
-    SEMIVRAKH_NOT_A_CIPHER = 3,    /* cipher record not 48 bytes */
+    SEMIVRAKH_BAD_KEY = 1,         /* key not 10 bytes, of Enocoro not 16; or all keys not 104 */
+    SEMIVRAKH_BAD_VALUE = 2,       /* initial value not 10 bytes, under Enocoro not 8; or pair name not 6 */
+    SEMIVRAKH_NOT_A_CIPHER = 3,    /* cipher record not 48 bytes, of Enocoro not 34 */
     SEMIVRAKH_LONG_NAME = 11,      /* name over 32 bytes */
     SEMIVRAKH_BAD_NAME = 12,       /* a name byte outside 32..126 */
-    SEMIVRAKH_BAD_KEY_COUNT = 13,  /* key count not 11 */
+    SEMIVRAKH_BAD_KEY_COUNT = 13,  /* key count neither 11 nor 9 */
     SEMIVRAKH_BAD_KEY_NUMBER = 14, /* key number over 3 */
     SEMIVRAKH_MANY_SAMPLES = 15,   /* over 16,384 samples */
     SEMIVRAKH_MANY_LOOPS = 16,     /* over 8 loops; in sealing also an odd run */
@@ -115,13 +127,17 @@ enum {
 
 /* Lengths, in bytes unless said otherwise. */
 enum {
-    SEMIVRAKH_CIPHER_BYTES = 48,
+    SEMIVRAKH_CIPHER_BYTES = 48,  /* Trivium's record */
+    SEMIVRAKH_ENOCORO_BYTES = 34, /* Enocoro's */
     SEMIVRAKH_SENDER_BYTES = 27,
     SEMIVRAKH_RECEIVER_BYTES = 26,
-    SEMIVRAKH_KEY_BYTES = 10,
+    SEMIVRAKH_KEY_BYTES = 10,    /* Trivium's, and the link's */
     SEMIVRAKH_VALUE_BYTES = 10,
+    SEMIVRAKH_ENOCORO_KEY_BYTES = 16,
+    SEMIVRAKH_ENOCORO_VALUE_BYTES = 8,
     SEMIVRAKH_PAIR_BYTES = 6,
-    SEMIVRAKH_RING_BYTES = 40,   /* four keys, one after the other */
+    SEMIVRAKH_KEYS_BYTES = 104,  /* all keys for packs */
+    SEMIVRAKH_ENOCORO_KEYS_AT = 40, /* where those of Enocoro begin among them */
     SEMIVRAKH_NAME_MOST = 32,
     SEMIVRAKH_SAMPLES_MOST = 16384, /* samples */
     SEMIVRAKH_LOOPS_MOST = 8,    /* loops, two numbers each */
@@ -132,6 +148,13 @@ enum {
     SEMIVRAKH_ANSWER_MOST = 7    /* room for any answer of the receiver */
 };
 
+/* The cipher of a pack, by its key count: a key number and an initial value. An accepted file has it two bytes before
+ * its initial value. */
+enum {
+    SEMIVRAKH_TRIVIUM = 11,
+    SEMIVRAKH_ENOCORO = 9
+};
+
 /* What semivrakh_pack_open and semivrakh_pack_survey answer, by index. Places are indices into the file. */
 enum {
     SEMIVRAKH_OPENED_SAMPLES = 0,     /* sample count */
@@ -139,7 +162,7 @@ enum {
     SEMIVRAKH_OPENED_LOOPS = 2,       /* loop count */
     SEMIVRAKH_OPENED_NAME_LENGTH = 3,
     SEMIVRAKH_OPENED_NAME_AT = 4,     /* where the name begins */
-    SEMIVRAKH_OPENED_VALUE_AT = 5,    /* where the initial value begins */
+    SEMIVRAKH_OPENED_VALUE_AT = 5,    /* where the initial value begins; two bytes before it stands the key count */
     SEMIVRAKH_OPENED_LOOPS_AT = 6,    /* where the loops begin: 8 bytes each, start and end, 4 bytes each, most
                                          significant first; semivrakh_pack_loops reads them */
     SEMIVRAKH_OPENED_NUMBERS = 7
@@ -201,21 +224,34 @@ uint8_t semivrakh_cipher_encipher(uint8_t *cipher, size_t cipher_length,
                                   uint8_t *output, size_t output_length);
 
 /*
- * Opens a pack file under the key of the ring that it names. Writes the samples to the front of `samples`, and seven
+ * The same for Enocoro-128v2: a key of 16 bytes and an initial value of eight, and 96 blank rounds.
+ * Refuses, in order: 1, 2, 19 (fewer than 34 bytes for the record).
+ */
+uint8_t semivrakh_enocoro_make(uint8_t *cipher, size_t cipher_length,
+                               const uint8_t *key, size_t key_length,
+                               const uint8_t *value, size_t value_length);
+
+/* Enciphers, or deciphers, as above. Refuses, in order: 3 (record not 34 bytes), 19 (output shorter than the input). */
+uint8_t semivrakh_enocoro_encipher(uint8_t *cipher, size_t cipher_length,
+                                   const uint8_t *input, size_t input_length,
+                                   uint8_t *output, size_t output_length);
+
+/*
+ * Opens a pack file under the cipher and the key that it names. Writes the samples to the front of `samples`, and seven
  * numbers, SEMIVRAKH_OPENED_.., to the front of `answer`. Lend 16,384 samples, and any pack has room.
  * Samples are -32,767 to 32,767, so each can be negated: a plain word of 80 00 is read as -32,767, as 80 01 is, and is
  * no fault.
- * Refuses, in order: 1 (ring not 40 bytes), what the file has wrong from front to back (11 to 18, and 30 to 33 where it
+ * Refuses, in order: 1 (keys not 104 bytes), what the file has wrong from front to back (11 to 18, and 30 to 33 where it
  * ends inside a section), 19 (too few samples lent for the pack, or fewer than seven numbers).
  *
  *     int16_t samples[SEMIVRAKH_SAMPLES_MOST];
  *     size_t answer[SEMIVRAKH_OPENED_NUMBERS];
- *     uint8_t no = semivrakh_pack_open(file, file_length, ring, 40, samples, SEMIVRAKH_SAMPLES_MOST,
- *                                      answer, SEMIVRAKH_OPENED_NUMBERS);
+ *     uint8_t no = semivrakh_pack_open(file, file_length, keys, SEMIVRAKH_KEYS_BYTES,
+ *                                      samples, SEMIVRAKH_SAMPLES_MOST, answer, SEMIVRAKH_OPENED_NUMBERS);
  *     if (no == 0) play(samples, answer[SEMIVRAKH_OPENED_SAMPLES]);
  */
 uint8_t semivrakh_pack_open(const uint8_t *file, size_t file_length,
-                            const uint8_t *ring, size_t ring_length,
+                            const uint8_t *keys, size_t keys_length,
                             int16_t *samples, size_t sample_room,
                             size_t *answer, size_t answer_room);
 
@@ -255,24 +291,27 @@ uint8_t semivrakh_pack_loops(const uint8_t *file, size_t file_length,
 size_t semivrakh_pack_lacks(const uint8_t *file, size_t file_length);
 
 /*
- * Seals a sound as a pack file under the key of the ring that the key number names. `loops` are starts and ends in
+ * Seals a sound as a pack file under `cipher`, SEMIVRAKH_TRIVIUM or SEMIVRAKH_ENOCORO, and the key of that cipher that
+ * the key number names. The initial value has 10 bytes for Trivium and 8 for Enocoro. `loops` are starts and ends in
  * turn, so `loop_numbers` is twice the count of loops. Writes the file to the front of `output` and its length to
  * `*file_length`. Lend 32,882 bytes, and any pack has room. Never use an initial value twice under one key.
  * Samples are -32,767 to 32,767: a sound with a sample of -32,768 is refused with 34, wherever it stands.
- * What is sealed opens to itself. An accepted pack that is opened and sealed again, with its own name, key number,
- * initial value and loops, is the same file if no plain word of it was 80 00; otherwise each of these is 80 01 now.
- * Refuses, in order: 1 (ring not 40 bytes), 11, 12, 2, 14, 15, 34, 16, 17, 19.
+ * What is sealed opens to itself. An accepted pack that is opened and sealed again, with its own name, cipher, key
+ * number, initial value and loops, is the same file if no plain word of it was 80 00; otherwise each of these is 80 01
+ * now.
+ * Refuses, in order: 1 (keys not 104 bytes), 11, 12, 13 (a cipher that is neither), 2, 14, 15, 34, 16, 17, 19.
  *
  *     uint8_t file[SEMIVRAKH_PACK_MOST];
  *     size_t length;
  *     const uint32_t loops[] = {0, 100, 100, 200};
- *     uint8_t no = semivrakh_pack_seal((const uint8_t *)"Choir", 5, ring, 40, 2, value, 10, samples, 200, loops, 4,
+ *     uint8_t no = semivrakh_pack_seal((const uint8_t *)"Choir", 5, keys, SEMIVRAKH_KEYS_BYTES,
+ *                                      SEMIVRAKH_TRIVIUM, 2, value, 10, samples, 200, loops, 4,
  *                                      file, sizeof file, &length);
  *     if (no == 0) fwrite(file, 1, length, stream);
  */
 uint8_t semivrakh_pack_seal(const uint8_t *name, size_t name_length,
-                            const uint8_t *ring, size_t ring_length,
-                            uint8_t key_number,
+                            const uint8_t *keys, size_t keys_length,
+                            uint8_t cipher, uint8_t key_number,
                             const uint8_t *value, size_t value_length,
                             const int16_t *samples, size_t sample_count,
                             const uint32_t *loops, size_t loop_numbers,

@@ -12,12 +12,12 @@
 /* ROW(number, words, advice) */
 #define SEMIVRAKH_WORDS_TABLE(ROW) \
     ROW(0, "not refused", "go on") \
-    ROW(1, "a key is not 10 bytes long, or a ring of keys not 40", "lend the whole key or ring, and no more") \
-    ROW(2, "an initial value is not 10 bytes long, or a pair name not 6", "lend all of it, and no more") \
-    ROW(3, "a cipher record is not 48 bytes long", "lend the bytes that making wrote, all 48 of them") \
+    ROW(1, "a key has not its cipher's length (10 bytes, 16 for Enocoro), or all keys not 104", "lend the whole key, or all keys, and no more") \
+    ROW(2, "an initial value has not its cipher's length (10 bytes, 8 for Enocoro), or a pair name not 6", "lend all of it, and no more") \
+    ROW(3, "a cipher record has not its length (48 bytes, 34 for Enocoro)", "lend the bytes that making wrote, all of them, to the calls of the same cipher") \
     ROW(11, "the name is over 32 bytes long", "opening: this is no pack, or a damaged one; sealing: shorten the name") \
     ROW(12, "the name has a byte that is not printable ASCII", "opening: the file is damaged; sealing: use bytes 32 to 126 only") \
-    ROW(13, "the key section's count is not 11", "this is no pack, or a damaged one") \
+    ROW(13, "the key count is neither 11 nor 9", "opening: this is no pack, or a damaged one; sealing: name the cipher by 11, Trivium, or 9, Enocoro") \
     ROW(14, "the key number is over 3", "opening: the file is damaged; sealing: name one of the keys 0 to 3") \
     ROW(15, "there are more than 16,384 samples", "opening: the file is damaged; sealing: cut the sound") \
     ROW(16, "there are more than 8 loops, or a loop has no end", "opening: the file is damaged; sealing: lend two numbers a loop, 16 at most") \

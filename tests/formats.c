@@ -12,7 +12,7 @@
 #include "semivrakh.h"
 #include "semivrakh_words.h"
 
-enum { BLOCKS_MOST = 120, BYTES_MOST = 128, LINE_MOST = 512, SOUND_BYTES = 65 };
+enum { BLOCKS_MOST = 200, BYTES_MOST = 128, LINE_MOST = 512, SOUND_BYTES = 65 };
 
 struct block {
     char label[LINE_MOST];
@@ -92,6 +92,69 @@ static void accepted(const char *label, uint8_t no) {
     holds(label, no == SEMIVRAKH_OK);
 }
 
+/* The ciphers, each with the labels of its example */
+
+struct cipher {
+    uint8_t key_count;
+    uint8_t (*make)(uint8_t *, size_t, const uint8_t *, size_t, const uint8_t *, size_t);
+    uint8_t (*encipher)(uint8_t *, size_t, const uint8_t *, size_t, uint8_t *, size_t);
+    size_t record_bytes, key_bytes, keys_at, loops_at; /* the loops' place is that of the example's file */
+    const char *value, *record, *keystream, *enciphered, *file, *cut;
+};
+
+static const struct cipher trivium = {
+    SEMIVRAKH_TRIVIUM, semivrakh_cipher_make, semivrakh_cipher_encipher,
+    SEMIVRAKH_CIPHER_BYTES, SEMIVRAKH_KEY_BYTES, 0, 26,
+    "pack value", "record cipher", "pack keystream", "pack enciphered", "pack file", "pack cut to"
+};
+
+static const struct cipher enocoro = {
+    SEMIVRAKH_ENOCORO, semivrakh_enocoro_make, semivrakh_enocoro_encipher,
+    SEMIVRAKH_ENOCORO_BYTES, SEMIVRAKH_ENOCORO_KEY_BYTES, SEMIVRAKH_ENOCORO_KEYS_AT, 24,
+    "enocoro value", "record enocoro", "enocoro keystream", "enocoro enciphered", "enocoro file", "enocoro cut to"
+};
+
+static void make(const char *label, const struct cipher *cipher, uint8_t record[BYTES_MOST], const uint8_t *key,
+                 const uint8_t *value, size_t value_length) {
+    accepted(label, cipher->make(record, BYTES_MOST, key, cipher->key_bytes, value, value_length));
+}
+
+/* Bytes under the keystream from its beginning. */
+static void covered(const char *label, const struct cipher *cipher, const uint8_t *key, const struct block *value,
+                    const uint8_t *plain, size_t length) {
+    uint8_t record[BYTES_MOST], output[BYTES_MOST];
+    make(label, cipher, record, key, value->bytes, value->length);
+    accepted(label, cipher->encipher(record, cipher->record_bytes, plain, length, output, sizeof output));
+    same(label, output, length);
+}
+
+/* A block of the standard's annex: a key, an initial value, and the first bytes of their keystream. */
+static void annex(const char *label) {
+    enum { KEY = SEMIVRAKH_ENOCORO_KEY_BYTES, VALUE = SEMIVRAKH_ENOCORO_VALUE_BYTES, STREAM = 32 };
+    static const uint8_t zeros[STREAM];
+    uint8_t record[BYTES_MOST], made[KEY + VALUE + STREAM];
+    const struct block *said = block(label);
+    memcpy(made, said->bytes, KEY + VALUE);
+    make(label, &enocoro, record, made, made + KEY, VALUE);
+    accepted(label, enocoro.encipher(record, enocoro.record_bytes, zeros, STREAM, made + KEY + VALUE, STREAM));
+    same(label, made, sizeof made);
+}
+
+static void annex_record(const char *label, const char *of) {
+    uint8_t record[BYTES_MOST];
+    const struct block *said = block(of);
+    make(label, &enocoro, record, said->bytes, said->bytes + enocoro.key_bytes, SEMIVRAKH_ENOCORO_VALUE_BYTES);
+    same(label, record, enocoro.record_bytes);
+}
+
+static void annex_blocks(void) {
+    annex("annex B.1, first");
+    annex("annex B.1, second");
+    annex("annex B.1, third");
+    annex("annex B.1, fourth");
+    annex_record("record enocoro of the annex", "annex B.1, fourth");
+}
+
 /* The pack */
 
 static const uint8_t name[] = {'H', 'i'};
@@ -99,105 +162,133 @@ static const int16_t samples[] = {1, -2, 32767};
 static const uint32_t loops[] = {0, 3};
 enum { KEY_NUMBER = 1, SAMPLES = 3, WORD_BYTES = 2 * SAMPLES };
 
-static void cipher_of(const char *label, uint8_t cipher[SEMIVRAKH_CIPHER_BYTES], const uint8_t *key,
-                      const struct block *value) {
-    accepted(label, semivrakh_cipher_make(cipher, SEMIVRAKH_CIPHER_BYTES, key, SEMIVRAKH_KEY_BYTES, value->bytes,
-                                          value->length));
-}
-
-/* Bytes under the keystream from its beginning. */
-static void covered(const char *label, const uint8_t *key, const struct block *value, const uint8_t *plain,
-                    size_t length) {
-    uint8_t cipher[SEMIVRAKH_CIPHER_BYTES], output[BYTES_MOST];
-    cipher_of(label, cipher, key, value);
-    accepted(label, semivrakh_cipher_encipher(cipher, sizeof cipher, plain, length, output, sizeof output));
-    same(label, output, length);
+/* Where the example's key stands among all keys. */
+static size_t key_at(const struct cipher *cipher) {
+    return cipher->keys_at + KEY_NUMBER * cipher->key_bytes;
 }
 
 /* A file of the example's parts, with this sound. Hands back its length. */
-static size_t seal(const char *label, uint8_t number, const struct block *ring, const struct block *value,
+static size_t seal(const char *label, uint8_t number, const struct cipher *cipher, uint8_t key_count,
                    const int16_t sound[SAMPLES], uint8_t file[BYTES_MOST]) {
+    const struct block *keys = block("pack keys"), *value = block(cipher->value);
     size_t length = 0;
-    holds(label, semivrakh_pack_seal(name, sizeof name, ring->bytes, ring->length, KEY_NUMBER, value->bytes,
+    holds(label, semivrakh_pack_seal(name, sizeof name, keys->bytes, keys->length, key_count, KEY_NUMBER, value->bytes,
                                      value->length, sound, SAMPLES, loops, 2, file, BYTES_MOST, &length) == number);
     return length;
 }
 
-static void pack_sealed(const char *label, const struct block *ring, const struct block *value,
-                        const int16_t sound[SAMPLES]) {
+static void pack_sealed(const char *label, const struct cipher *cipher, const int16_t sound[SAMPLES]) {
     uint8_t file[BYTES_MOST];
-    size_t length = seal(label, SEMIVRAKH_OK, ring, value, sound, file);
+    size_t length = seal(label, SEMIVRAKH_OK, cipher, cipher->key_count, sound, file);
     same(label, file, length);
 }
 
-static void pack_opened(const char *label, const struct block *ring, const int16_t expected[SAMPLES]) {
-    static const size_t told[SEMIVRAKH_OPENED_NUMBERS] = {SAMPLES, KEY_NUMBER, 1, sizeof name, 1, 5, 26};
+static void opened_with(const char *label, const struct cipher *cipher, const uint8_t *keys, size_t keys_length,
+                        const int16_t expected[SAMPLES]) {
+    const size_t told[SEMIVRAKH_OPENED_NUMBERS] = {SAMPLES, KEY_NUMBER, 1, sizeof name, 1, 5, cipher->loops_at};
     const struct block *file = block(label);
     int16_t sound[SAMPLES] = {0};
     size_t answer[SEMIVRAKH_OPENED_NUMBERS] = {0};
-    accepted(label, semivrakh_pack_open(file->bytes, file->length, ring->bytes, ring->length, sound, SAMPLES, answer,
+    accepted(label, semivrakh_pack_open(file->bytes, file->length, keys, keys_length, sound, SAMPLES, answer,
                                         SEMIVRAKH_OPENED_NUMBERS));
     holds(label, memcmp(sound, expected, sizeof sound) == 0 && memcmp(answer, told, sizeof told) == 0);
+    holds(label, file->bytes[answer[SEMIVRAKH_OPENED_VALUE_AT] - 2] == cipher->key_count);
+}
+
+/* With all keys, and with zeros for all but its own. */
+static void pack_opened(const char *label, const struct cipher *cipher, const int16_t expected[SAMPLES]) {
+    const struct block *keys = block("pack keys");
+    uint8_t own[SEMIVRAKH_KEYS_BYTES] = {0};
+    memcpy(own + key_at(cipher), keys->bytes + key_at(cipher), cipher->key_bytes);
+    opened_with(label, cipher, keys->bytes, keys->length, expected);
+    opened_with(label, cipher, own, sizeof own, expected);
 }
 
 /* The lowest word is read as the next, which is what sealing writes; the lowest sample is refused. */
-static void lowest_word(const struct block *ring, const struct block *value) {
+static void lowest_word(void) {
     static const int16_t raised[SAMPLES] = {-32767, -2, 32767}, lowest[SAMPLES] = {-32768, -2, 32767};
     uint8_t file[BYTES_MOST];
-    pack_opened("pack lowest word", ring, raised);
-    pack_opened("pack raised word", ring, raised);
-    pack_sealed("pack raised word", ring, value, raised);
-    seal("pack lowest word", SEMIVRAKH_LOWEST_SAMPLE, ring, value, lowest, file);
+    pack_opened("pack lowest word", &trivium, raised);
+    pack_opened("pack raised word", &trivium, raised);
+    pack_sealed("pack raised word", &trivium, raised);
+    seal("pack lowest word", SEMIVRAKH_LOWEST_SAMPLE, &trivium, SEMIVRAKH_TRIVIUM, lowest, file);
+    seal("pack lowest word", SEMIVRAKH_LOWEST_SAMPLE, &enocoro, SEMIVRAKH_ENOCORO, lowest, file);
 }
 
-/* The front of the pack file, of so many bytes, is refused as the paper's table says. */
-static void pack_cut_to(size_t length) {
-    const struct block *file = block("pack file");
+/* The front of a cipher's file, of so many bytes, is refused as the paper's table says. */
+static void pack_cut_to(const struct cipher *cipher, size_t length) {
+    const struct block *file = block(cipher->file);
     size_t answer[SEMIVRAKH_OPENED_NUMBERS];
     uint8_t no = semivrakh_pack_survey(file->bytes, length, answer, SEMIVRAKH_OPENED_NUMBERS);
+    size_t missing = semivrakh_pack_lacks(file->bytes, length);
     char label[LINE_MOST];
-    snprintf(label, sizeof label, "cut to %zu, refused %d %zu", length, no, semivrakh_pack_lacks(file->bytes, length));
+    snprintf(label, sizeof label, "%s %zu, refused %d %zu", cipher->cut, length, no, missing);
     same(label, NULL, 0);
 }
 
-/* A block that is a front of the pack file. */
-static void front_shown(const char *label, const struct block *ring, uint8_t number, size_t missing) {
-    const struct block *file = block("pack file"), *front = block(label);
-    int16_t sound[SAMPLES];
-    size_t answer[SEMIVRAKH_OPENED_NUMBERS];
-    holds(label, front->length < file->length && memcmp(front->bytes, file->bytes, front->length) == 0);
-    holds(label, semivrakh_pack_open(front->bytes, front->length, ring->bytes, ring->length, sound, SAMPLES, answer,
-                                     SEMIVRAKH_OPENED_NUMBERS) == number);
-    holds(label, semivrakh_pack_lacks(front->bytes, front->length) == missing);
+static void pack_cut(const struct cipher *cipher) {
+    const struct block *file = block(cipher->file);
+    for (size_t length = 0; length < file->length; length++) pack_cut_to(cipher, length);
+    holds(cipher->file, semivrakh_pack_lacks(file->bytes, file->length) == 0);
 }
 
-static void pack_cut(const struct block *ring) {
-    const struct block *file = block("pack file");
-    for (size_t length = 0; length < file->length; length++) pack_cut_to(length);
-    holds("pack file", semivrakh_pack_lacks(file->bytes, file->length) == 0);
-    front_shown("pack of no bytes", ring, SEMIVRAKH_CUT_IN_NAME, 1);
-    front_shown("pack cut in a count", ring, SEMIVRAKH_CUT_IN_SAMPLES, 3);
-    front_shown("pack cut in a body", ring, SEMIVRAKH_CUT_IN_SAMPLES, 4);
+static void pack_refused(const char *label, uint8_t number, size_t missing) {
+    const struct block *file = block(label), *keys = block("pack keys");
+    int16_t sound[SAMPLES];
+    size_t answer[SEMIVRAKH_OPENED_NUMBERS];
+    holds(label, semivrakh_pack_open(file->bytes, file->length, keys->bytes, keys->length, sound, SAMPLES, answer,
+                                     SEMIVRAKH_OPENED_NUMBERS) == number);
+    holds(label, semivrakh_pack_lacks(file->bytes, file->length) == missing);
+}
+
+/* A block that is a front of the pack file. */
+static void front_shown(const char *label, uint8_t number, size_t missing) {
+    const struct block *file = block("pack file"), *front = block(label);
+    holds(label, front->length < file->length && memcmp(front->bytes, file->bytes, front->length) == 0);
+    pack_refused(label, number, missing);
+}
+
+static void fronts_shown(void) {
+    front_shown("pack of no bytes", SEMIVRAKH_CUT_IN_NAME, 1);
+    front_shown("pack cut in a count", SEMIVRAKH_CUT_IN_SAMPLES, 3);
+    front_shown("pack cut in a body", SEMIVRAKH_CUT_IN_SAMPLES, 4);
+}
+
+/* A key count that is no cipher's, in a file and told to sealing. */
+static void no_cipher(void) {
+    static const char label[] = "pack of no cipher";
+    const struct block *file = block(label);
+    uint8_t sealed[BYTES_MOST];
+    pack_refused(label, SEMIVRAKH_BAD_KEY_COUNT, 0);
+    seal(label, SEMIVRAKH_BAD_KEY_COUNT, &enocoro, file->bytes[1 + sizeof name], samples, sealed);
+}
+
+static void pack_under(const struct cipher *cipher) {
+    static const uint8_t zeros[WORD_BYTES];
+    const struct block *value = block(cipher->value), *words = block("pack words");
+    const uint8_t *key = block("pack keys")->bytes + key_at(cipher);
+    uint8_t record[BYTES_MOST];
+    make(cipher->record, cipher, record, key, value->bytes, value->length);
+    same(cipher->record, record, cipher->record_bytes);
+    covered(cipher->keystream, cipher, key, value, zeros, sizeof zeros);
+    covered(cipher->enciphered, cipher, key, value, words->bytes, words->length);
+    pack_sealed(cipher->file, cipher, samples);
+    pack_opened(cipher->file, cipher, samples);
+    pack_cut(cipher);
 }
 
 static void pack(void) {
-    static const uint8_t zeros[WORD_BYTES];
-    const struct block *ring = block("pack ring"), *value = block("pack value");
-    const uint8_t *key = ring->bytes + KEY_NUMBER * SEMIVRAKH_KEY_BYTES;
-    uint8_t words[WORD_BYTES], cipher[SEMIVRAKH_CIPHER_BYTES];
+    uint8_t words[WORD_BYTES];
     for (size_t i = 0; i < SAMPLES; i++) {
         words[2 * i] = (uint8_t)((uint16_t)samples[i] >> 8);
         words[2 * i + 1] = (uint8_t)samples[i];
     }
     same("pack words", words, sizeof words);
-    cipher_of("record cipher", cipher, key, value);
-    same("record cipher", cipher, sizeof cipher);
-    covered("pack keystream", key, value, zeros, sizeof zeros);
-    covered("pack enciphered", key, value, words, sizeof words);
-    pack_sealed("pack file", ring, value, samples);
-    pack_opened("pack file", ring, samples);
-    lowest_word(ring, value);
-    pack_cut(ring);
+    pack_under(&trivium);
+    pack_under(&enocoro);
+    lowest_word();
+    fronts_shown();
+    no_cipher();
 }
 
 /* The link */
@@ -277,7 +368,7 @@ static void one_stream(const struct block *key, const struct block *sound) {
     static const uint8_t zeros[SOUND_BYTES];
     enum { HEAD = 8, FIRST = SEMIVRAKH_BLOCK_BYTES };
     const struct block *stream = block("link keystream"), *one = block("link block 0"), *two = block("link block 1");
-    covered("link keystream", key->bytes, block("link value"), zeros, sizeof zeros);
+    covered("link keystream", &trivium, key->bytes, block("link value"), zeros, sizeof zeros);
     bool so = sound->length == SOUND_BYTES && one->length == HEAD + FIRST && two->length == HEAD + 1;
     for (size_t i = 0; so && i < SOUND_BYTES; i++) {
         uint8_t sent = i < FIRST ? one->bytes[HEAD + i] : two->bytes[HEAD];
@@ -310,6 +401,7 @@ static void numbers(void) {
 int main(void) {
     char line[LINE_MOST];
     while (fgets(line, sizeof line, stdin) != NULL) read_block(line);
+    annex_blocks();
     pack();
     link_frames();
     numbers();

@@ -1,6 +1,5 @@
 #include "calls.h"
 
-#include "lend.h"
 #include "model.h"
 
 static struct lending lend(const char *name, struct run run, size_t size, bool may_write) {
@@ -35,9 +34,20 @@ static uint8_t compare_make(enum call call, maker *const makers[SIDES], struct r
     return settle(call, numbers);
 }
 
-uint8_t compare_cipher_make(struct run cipher, struct run key, struct run value) {
-    static maker *const makers[SIDES] = {semivrakh_cipher_make, model_cipher_make};
-    return compare_make(CIPHER_MAKE, makers, cipher, key, value);
+enum call making_call(unsigned which) {
+    return which == MODEL_TRIVIUM ? CIPHER_MAKE : ENOCORO_MAKE;
+}
+
+enum call enciphering_call(unsigned which) {
+    return which == MODEL_TRIVIUM ? CIPHER_ENCIPHER : ENOCORO_ENCIPHER;
+}
+
+uint8_t compare_cipher_make(unsigned which, struct run cipher, struct run key, struct run value) {
+    static maker *const makers[MODEL_CIPHERS][SIDES] = {
+        [MODEL_TRIVIUM] = {semivrakh_cipher_make, model_cipher_make},
+        [MODEL_ENOCORO] = {semivrakh_enocoro_make, model_enocoro_make},
+    };
+    return compare_make(making_call(which), makers[which], cipher, key, value);
 }
 
 uint8_t compare_sender_make(struct run sender, struct run key, struct run pair) {
@@ -78,24 +88,30 @@ uint8_t compare_receiver_status(struct run receiver, struct run answer) {
     return compare_telling(RECEIVER_STATUS, tellers, "receiver", receiver, answer);
 }
 
-uint8_t compare_cipher_encipher(struct run cipher, struct run input, struct run output) {
+typedef uint8_t encipherer(uint8_t *, size_t, const uint8_t *, size_t, uint8_t *, size_t);
+
+uint8_t compare_cipher_encipher(unsigned which, struct run cipher, struct run input, struct run output) {
+    static encipherer *const encipherers[MODEL_CIPHERS][SIDES] = {
+        [MODEL_TRIVIUM] = {semivrakh_cipher_encipher, model_cipher_encipher},
+        [MODEL_ENOCORO] = {semivrakh_enocoro_encipher, model_enocoro_encipher},
+    };
     uint8_t numbers[SIDES];
     lend_all((struct lending[]){to_write("cipher", cipher), to_read("input", input), to_write("output", output)}, 3);
-    numbers[LIBRARY] = semivrakh_cipher_encipher(lent(LIBRARY, 0), cipher.count, lent(LIBRARY, 1), input.count,
-                                                 lent(LIBRARY, 2), output.count);
-    numbers[MODEL] = model_cipher_encipher(lent(MODEL, 0), cipher.count, lent(MODEL, 1), input.count,
-                                           lent(MODEL, 2), output.count);
-    return settle(CIPHER_ENCIPHER, numbers);
+    for (enum side side = LIBRARY; side < SIDES; side++) {
+        numbers[side] = encipherers[which][side](lent(side, 0), cipher.count, lent(side, 1), input.count,
+                                                 lent(side, 2), output.count);
+    }
+    return settle(enciphering_call(which), numbers);
 }
 
-uint8_t compare_pack_open(struct run file, struct run ring, struct run samples, struct run answer) {
+uint8_t compare_pack_open(struct run file, struct run keys, struct run samples, struct run answer) {
     uint8_t numbers[SIDES];
-    lend_all((struct lending[]){to_read("file", file), to_read("ring", ring),
+    lend_all((struct lending[]){to_read("file", file), to_read("keys", keys),
                                 lend("samples", samples, sizeof(int16_t), true),
                                 numbers_to_write("answer", answer)}, 4);
-    numbers[LIBRARY] = semivrakh_pack_open(lent(LIBRARY, 0), file.count, lent(LIBRARY, 1), ring.count,
+    numbers[LIBRARY] = semivrakh_pack_open(lent(LIBRARY, 0), file.count, lent(LIBRARY, 1), keys.count,
                                            lent(LIBRARY, 2), samples.count, lent(LIBRARY, 3), answer.count);
-    numbers[MODEL] = model_pack_open(lent(MODEL, 0), file.count, lent(MODEL, 1), ring.count,
+    numbers[MODEL] = model_pack_open(lent(MODEL, 0), file.count, lent(MODEL, 1), keys.count,
                                      lent(MODEL, 2), samples.count, lent(MODEL, 3), answer.count);
     return settle(PACK_OPEN, numbers);
 }
@@ -123,19 +139,21 @@ size_t compare_pack_lacks(struct run file) {
 
 uint8_t compare_pack_seal(const struct sealing *sealing) {
     uint8_t numbers[SIDES];
-    lend_all((struct lending[]){to_read("name", sealing->name), to_read("ring", sealing->ring),
+    lend_all((struct lending[]){to_read("name", sealing->name), to_read("keys", sealing->keys),
                                 to_read("value", sealing->value),
                                 lend("samples", sealing->samples, sizeof(int16_t), false),
                                 lend("loops", sealing->loops, sizeof(uint32_t), false),
                                 to_write("output", sealing->output), number_to_write("file_length")}, 7);
     numbers[LIBRARY] = semivrakh_pack_seal(
-        lent(LIBRARY, 0), sealing->name.count, lent(LIBRARY, 1), sealing->ring.count, sealing->key_number,
-        lent(LIBRARY, 2), sealing->value.count, lent(LIBRARY, 3), sealing->samples.count,
-        lent(LIBRARY, 4), sealing->loops.count, lent(LIBRARY, 5), sealing->output.count, lent(LIBRARY, 6));
+        lent(LIBRARY, 0), sealing->name.count, lent(LIBRARY, 1), sealing->keys.count,
+        sealing->cipher, sealing->key_number, lent(LIBRARY, 2), sealing->value.count,
+        lent(LIBRARY, 3), sealing->samples.count, lent(LIBRARY, 4), sealing->loops.count,
+        lent(LIBRARY, 5), sealing->output.count, lent(LIBRARY, 6));
     numbers[MODEL] = model_pack_seal(
-        lent(MODEL, 0), sealing->name.count, lent(MODEL, 1), sealing->ring.count, sealing->key_number,
-        lent(MODEL, 2), sealing->value.count, lent(MODEL, 3), sealing->samples.count,
-        lent(MODEL, 4), sealing->loops.count, lent(MODEL, 5), sealing->output.count, lent(MODEL, 6));
+        lent(MODEL, 0), sealing->name.count, lent(MODEL, 1), sealing->keys.count,
+        sealing->cipher, sealing->key_number, lent(MODEL, 2), sealing->value.count,
+        lent(MODEL, 3), sealing->samples.count, lent(MODEL, 4), sealing->loops.count,
+        lent(MODEL, 5), sealing->output.count, lent(MODEL, 6));
     return settle(PACK_SEAL, numbers);
 }
 

@@ -5,6 +5,8 @@
 #include <stddef.h>
 #include <stdint.h>
 
+#include "lend.h"
+
 /* A run of elements to be lent; content NULL stands for any bytes. */
 struct run {
     const void *content;
@@ -20,17 +22,20 @@ static inline struct run room(size_t count) {
     return (struct run){NULL, count};
 }
 
-uint8_t compare_cipher_make(struct run cipher, struct run key, struct run value);
-uint8_t compare_cipher_encipher(struct run cipher, struct run input, struct run output);
-uint8_t compare_pack_open(struct run file, struct run ring, struct run samples, struct run answer);
+/* The calls of a cipher, `which` being MODEL_TRIVIUM or MODEL_ENOCORO, and their names in the header. */
+enum call making_call(unsigned which);
+enum call enciphering_call(unsigned which);
+uint8_t compare_cipher_make(unsigned which, struct run cipher, struct run key, struct run value);
+uint8_t compare_cipher_encipher(unsigned which, struct run cipher, struct run input, struct run output);
+uint8_t compare_pack_open(struct run file, struct run keys, struct run samples, struct run answer);
 uint8_t compare_pack_survey(struct run file, struct run answer);
 uint8_t compare_pack_loops(struct run file, struct run loops);
 /* Hands back what the file lacks. */
 size_t compare_pack_lacks(struct run file);
 
 struct sealing {
-    struct run name, ring;
-    uint8_t key_number;
+    struct run name, keys;
+    uint8_t cipher, key_number;
     struct run value, samples, loops, output;
 };
 

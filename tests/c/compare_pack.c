@@ -9,15 +9,19 @@
 #include "model.h"
 #include "random.h"
 
-enum { NAME_ROOM = 256, LOOPS_ROOM = 256, EXTRA_MOST = 40 };
+enum { NAME_ROOM = 256, LOOPS_ROOM = 256, EXTRA_MOST = 40, VALUE_MOST = 10 };
+/* All keys; and room for a length of keys that is wrong and far above. */
+enum { KEYS_BYTES = SEMIVRAKH_KEYS_BYTES, KEYS_ROOM = KEYS_BYTES + 300 };
 enum { LOWEST_SAMPLE = -32768, LOWEST_WORD = 0x8000, WORD_ABOVE = 0x8001 };
-enum { FILE_ROOM = 1 + NAME_ROOM + 12 + 4 + 2 * (SEMIVRAKH_SAMPLES_MOST + 8) + 1 + 8 * LOOPS_ROOM + EXTRA_MOST };
+enum { SAMPLES_ROOM = SEMIVRAKH_SAMPLES_MOST + EXTRA_MOST };
+enum { FILE_ROOM = 1 + NAME_ROOM + 2 + VALUE_MOST + 4 + 2 * SAMPLES_ROOM + 1 + 8 * LOOPS_ROOM + EXTRA_MOST };
 
 /* The parts of a pack, in rule or not. */
 struct parts {
     uint8_t name[NAME_ROOM];
     size_t name_length;
-    uint8_t key_count, key_number, value[10];
+    unsigned cipher; /* MODEL_TRIVIUM or MODEL_ENOCORO */
+    uint8_t key_count, key_number, value[VALUE_MOST];
     uint32_t claimed_samples; /* what the count says */
     size_t samples;           /* how many follow */
     uint32_t loops[2 * LOOPS_ROOM];
@@ -37,8 +41,11 @@ static const char *const piece_names[PIECES] = {
 };
 static uint64_t times_cut[PIECES];
 
+/* How often a pack under each cipher was opened, and how often one was sealed. */
+static uint64_t times_opened[MODEL_CIPHERS], times_sealed[MODEL_CIPHERS];
+
 /* The sound to be sealed, or the last one opened. No sample is the lowest unless it is put there. */
-static int16_t sound[SEMIVRAKH_SAMPLES_MOST + EXTRA_MOST];
+static int16_t sound[SAMPLES_ROOM];
 
 /* Eight samples may be worked on at once, and the rest behind the last whole eight one by one. That is no rule of the
  * paper, so a sample of -32,768 and a word of 80 00 come at each place of an eight, and in the rest. */
@@ -66,11 +73,25 @@ static void choose_name(size_t length) {
     if (length > 0 && random_once_in(4)) parts.name[random_below((uint32_t)length)] = random_once_in(2) ? 32 : 126;
 }
 
+/* The cipher that the parts are of. */
+static const struct model_cipher *cipher(void) {
+    return &model_ciphers[parts.cipher];
+}
+
+static const struct model_cipher *other_cipher(void) {
+    return &model_ciphers[parts.cipher == MODEL_TRIVIUM ? MODEL_ENOCORO : MODEL_TRIVIUM];
+}
+
+static void choose_key(void) {
+    parts.cipher = random_below(MODEL_CIPHERS);
+    parts.key_count = cipher()->key_count;
+    parts.key_number = (uint8_t)random_below(4);
+    memcpy(parts.value, noise(VALUE_MOST), VALUE_MOST);
+}
+
 static void choose_parts(size_t name_length, size_t samples, size_t loops) {
     choose_name(name_length);
-    parts.key_count = 11;
-    parts.key_number = (uint8_t)random_below(4);
-    memcpy(parts.value, noise(10), 10);
+    choose_key();
     parts.claimed_samples = (uint32_t)samples;
     parts.samples = samples;
     choose_loops(samples == 0 ? 0 : 2 * loops, (uint32_t)samples);
@@ -85,6 +106,31 @@ static void spoil_name(void) {
     static const uint8_t outside[] = {31, 127, 0, 255, 128, 10};
     size_t place = random_once_in(3) ? parts.name_length - 1 : random_below((uint32_t)parts.name_length);
     parts.name[place] = outside[random_below(sizeof outside)];
+}
+
+/* A key count of no cipher, often one beside the two. */
+static void spoil_key_count(void) {
+    static const uint8_t beside[] = {8, 10, 12};
+    parts.key_count = beside[random_below(sizeof beside)];
+    if (random_once_in(2)) return;
+    do parts.key_count = (uint8_t)random_next();
+    while (model_cipher_of(parts.key_count) != MODEL_CIPHERS);
+}
+
+/* Now and then the keys of one cipher alone. */
+static size_t wrong_keys_length(void) {
+    if (random_once_in(6)) return 4 * model_ciphers[MODEL_TRIVIUM].key_bytes;
+    if (random_once_in(5)) return 4 * model_ciphers[MODEL_ENOCORO].key_bytes;
+    return wrong_length(KEYS_BYTES);
+}
+
+static size_t keys_length_but_for(faults set) {
+    return has(set, 1) ? wrong_keys_length() : KEYS_BYTES;
+}
+
+/* Now and then the length for the other cipher. */
+static size_t wrong_value_length(void) {
+    return random_once_in(3) ? other_cipher()->value_bytes : wrong_length(cipher()->value_bytes);
 }
 
 static void spoil_loop(uint32_t samples) {
@@ -113,7 +159,7 @@ static void write_file(void) {
     at = put_bytes(at, parts.name, parts.name_length);
     at = put_number(at, 1, parts.key_count);
     at = put_number(at, 1, parts.key_number);
-    at = put_bytes(at, parts.value, 10);
+    at = put_bytes(at, parts.value, cipher()->value_bytes);
     at = put_number(at, 4, parts.claimed_samples);
     at = put_bytes(at, noise(2 * parts.samples), 2 * parts.samples);
     at = put_number(at, 1, (uint32_t)(parts.loop_numbers / 2));
@@ -131,9 +177,17 @@ static struct run lent_file(void) {
     return run_of(file, file_length);
 }
 
+/* Where an accepted file says its cipher. */
+static uint8_t opened_key_count(void) {
+    return file[opened[SEMIVRAKH_OPENED_VALUE_AT] - 2];
+}
+
 /* Keeps what an accepted opening wrote. Each sample of it can be negated. */
 static void keep_opened(void) {
     memcpy(opened, after(3), sizeof opened);
+    unsigned which = model_cipher_of(opened_key_count());
+    if (which == MODEL_CIPHERS) differ("a pack opens, and two bytes before its initial value stands no cipher");
+    times_opened[which]++;
     size_t count = opened[SEMIVRAKH_OPENED_SAMPLES];
     memcpy(sound, after(2), 2 * count);
     for (size_t i = 0; i < count; i++) {
@@ -141,8 +195,8 @@ static void keep_opened(void) {
     }
 }
 
-static uint8_t open_file(struct run ring, size_t sample_room, size_t answer_room) {
-    uint8_t no = compare_pack_open(lent_file(), ring, room(sample_room), room(answer_room));
+static uint8_t open_file(struct run keys, size_t sample_room, size_t answer_room) {
+    uint8_t no = compare_pack_open(lent_file(), keys, room(sample_room), room(answer_room));
     if (no == 0) keep_opened();
     return no;
 }
@@ -206,7 +260,7 @@ static void survey_file(uint8_t opening, size_t answer_room) {
 /* Where a piece ends in a file of these parts. */
 static size_t piece_end(size_t piece) {
     const size_t lengths[PIECES] = {
-        1, parts.name_length, 1, 11, 4, 2 * parts.samples, 1, 4 * parts.loop_numbers,
+        1, parts.name_length, 1, 1 + cipher()->value_bytes, 4, 2 * parts.samples, 1, 4 * parts.loop_numbers,
     };
     size_t end = 0;
     for (size_t i = 0; i <= piece; i++) end += lengths[i];
@@ -250,13 +304,13 @@ static void cut_as(faults set) {
     if (section < SECTIONS) cut_in(2 * section + (has(set, of_count[section]) || random_once_in(2)));
 }
 
-/* Survey and loops take no ring, and list no 1: it is passed over where their number is planned. */
+/* Survey and loops take no keys, and list no 1: it is passed over where their number is planned. */
 static void open_with(faults set) {
     size_t sample_room, answer_room = enough(7);
     choose_small_parts();
     if (has(set, 11)) choose_name(random_once_in(2) ? 33 : random_between(34, 255));
     if (has(set, 12)) spoil_name();
-    if (has(set, 13)) parts.key_count = (uint8_t)(random_once_in(2) ? random_below(11) : random_between(12, 255));
+    if (has(set, 13)) spoil_key_count();
     if (has(set, 14)) parts.key_number = (uint8_t)(random_once_in(2) ? 4 : random_between(5, 255));
     if (has(set, 15)) claim_many_samples();
     if (has(set, 16)) choose_loops(2 * (random_once_in(2) ? 9 : random_between(10, 255)), (uint32_t)parts.samples);
@@ -270,7 +324,7 @@ static void open_with(faults set) {
     write_file();
     cut_as(set);
     plan_first(PACK_OPEN, set);
-    uint8_t no = open_file(room(has(set, 1) ? wrong_length(40) : 40), sample_room, answer_room);
+    uint8_t no = open_file(room(keys_length_but_for(set)), sample_room, answer_room);
     plan_first(PACK_SURVEY, set);
     survey_file(no, enough_but_for(set, 7));
     look_at_cut();
@@ -288,7 +342,7 @@ static void plan_as_opening(uint8_t opening) {
 }
 
 static void read_file_in(size_t sample_room) {
-    uint8_t no = open_file(room(40), sample_room, enough(7));
+    uint8_t no = open_file(room(KEYS_BYTES), sample_room, enough(7));
     plan_as_opening(no);
     survey_file(no, enough_or_not(7));
     plan_as_opening(no);
@@ -322,6 +376,24 @@ static void read_lengthened(void) {
     file_length = whole;
 }
 
+/* Under the count of the other cipher, the sample count is read two bytes before its place or behind it. Behind it, its
+ * first two bytes are the low ones of the true count, which make it too large. Before it, they are the last two of the
+ * initial value: if these are zeros, no samples and no loops are read, and what follows is more than a file has. */
+static void read_under_the_other_count(void) {
+    bool zeros = random_once_in(2);
+    choose_small_parts();
+    parts.key_count = other_cipher()->key_count;
+    if (zeros) memset(parts.value + VALUE_MOST - 2, 0, 2);
+    else parts.value[VALUE_MOST - 2] |= 1;
+    write_file();
+    plan_number(parts.cipher == MODEL_TRIVIUM && zeros ? SEMIVRAKH_MORE_BYTES : SEMIVRAKH_MANY_SAMPLES);
+    read_file();
+}
+
+void packs_under_the_other_count(void) {
+    for (int packs = 0; packs < 20; packs++) read_under_the_other_count();
+}
+
 void damaged_packs(void) {
     size_t samples = random_below(5);
     choose_parts(random_below(6), samples, random_below(3));
@@ -352,16 +424,16 @@ static void read_again(const struct sealing *sealing, const int16_t *samples) {
     file_length = *(const size_t *)after(SEALED_LENGTH);
     memcpy(file, after(SEALED_OUTPUT), file_length);
     plan_number(0);
-    open_file(sealing->ring, enough(sealing->samples.count), 7);
+    open_file(sealing->keys, enough(sealing->samples.count), 7);
     if (memcmp(sound, samples, 2 * sealing->samples.count) != 0) differ("a sealed sound opens as another");
     if (opened[SEMIVRAKH_OPENED_SAMPLES] != sealing->samples.count
         || opened[SEMIVRAKH_OPENED_LOOPS] != sealing->loops.count / 2
-        || opened[SEMIVRAKH_OPENED_KEY] != sealing->key_number
+        || opened[SEMIVRAKH_OPENED_KEY] != sealing->key_number || opened_key_count() != sealing->cipher
         || opened[SEMIVRAKH_OPENED_NAME_LENGTH] != sealing->name.count) {
         differ("a sealed pack opens with other counts");
     }
     if (memcmp(file + opened[SEMIVRAKH_OPENED_NAME_AT], parts.name, parts.name_length) != 0
-        || memcmp(file + opened[SEMIVRAKH_OPENED_VALUE_AT], parts.value, 10) != 0) {
+        || memcmp(file + opened[SEMIVRAKH_OPENED_VALUE_AT], parts.value, cipher()->value_bytes) != 0) {
         differ("a sealed pack has its name or value elsewhere");
     }
     survey_file(0, enough_or_not(7));
@@ -369,7 +441,7 @@ static void read_again(const struct sealing *sealing, const int16_t *samples) {
 }
 
 static size_t sealed_length(void) {
-    return 18 + parts.name_length + 2 * parts.samples + 4 * parts.loop_numbers;
+    return piece_end(PIECES - 1);
 }
 
 /* Words at the edges of their range among random ones, and none of -32,768. */
@@ -402,24 +474,30 @@ static void count_refused_sound(void) {
     times_refused_at[stand_of(place, parts.samples)]++;
 }
 
+static uint8_t seal(const struct sealing *sealing) {
+    uint8_t no = compare_pack_seal(sealing);
+    if (no == 0) times_sealed[model_cipher_of(sealing->cipher)]++;
+    return no;
+}
+
 /* Seals the sound with the parts, and with the faults of the set that are not in these. */
 static void seal_sound(faults set) {
-    static int16_t samples[SEMIVRAKH_SAMPLES_MOST + EXTRA_MOST]; /* the sound once more, as opening goes over it */
-    static uint8_t ring[2 * 40 + 300];
-    size_t value_length = has(set, 2) ? wrong_length(10) : 10, ring_length = has(set, 1) ? wrong_length(40) : 40;
+    static int16_t samples[SAMPLES_ROOM]; /* the sound once more, as opening goes over it */
+    static uint8_t keys[KEYS_ROOM];
     memcpy(samples, sound, sizeof samples);
-    memcpy(ring, noise(sizeof ring), sizeof ring);
+    memcpy(keys, noise(sizeof keys), sizeof keys);
     struct sealing sealing = {
         .name = run_of(parts.name, parts.name_length),
-        .ring = run_of(ring, ring_length),
+        .keys = run_of(keys, keys_length_but_for(set)),
+        .cipher = parts.key_count,
         .key_number = parts.key_number,
-        .value = value_length == 10 ? run_of(parts.value, 10) : room(value_length),
+        .value = has(set, 2) ? room(wrong_value_length()) : run_of(parts.value, cipher()->value_bytes),
         .samples = run_of(samples, parts.samples),
         .loops = run_of(parts.loops, parts.loop_numbers),
         .output = room(enough_but_for(set, sealed_length())),
     };
     plan_first(PACK_SEAL, set);
-    uint8_t no = compare_pack_seal(&sealing);
+    uint8_t no = seal(&sealing);
     if (no == SEMIVRAKH_LOWEST_SAMPLE) count_refused_sound();
     if (no == 0) read_again(&sealing, samples);
 }
@@ -428,6 +506,7 @@ static void seal_sound(faults set) {
 static void spoil_parts(faults set) {
     if (has(set, 11)) choose_name(random_once_in(2) ? 33 : random_between(34, 255));
     if (has(set, 12)) spoil_name();
+    if (has(set, 13)) spoil_key_count();
     if (has(set, 14)) parts.key_number = (uint8_t)(random_once_in(2) ? 4 : random_between(5, 255));
     if (has(set, 15)) parts.samples = SEMIVRAKH_SAMPLES_MOST + random_between(1, EXTRA_MOST);
     size_t many = random_once_in(2) ? 18 : random_between(19, 2 * LOOPS_ROOM);
@@ -495,8 +574,8 @@ void sealing_lowest_samples(void) {
     }
 }
 
-/* A file whose plain words are known: it is sealed under this ring, and this is the keystream over them. */
-static uint8_t known_ring[40], keystream[2 * SEMIVRAKH_SAMPLES_MOST];
+/* A file whose plain words are known: it is sealed under these keys, and this is the keystream over them. */
+static uint8_t known_keys[KEYS_BYTES], keystream[2 * SEMIVRAKH_SAMPLES_MOST];
 
 static uint8_t *enciphered_word(size_t place) {
     return file + piece_end(SAMPLE_COUNT) + 2 * place;
@@ -516,11 +595,10 @@ static void put_word(size_t place, unsigned word) {
 
 /* A file of the parts, with the sound in it. */
 static void write_known_file(void) {
-    struct model_trivium trivium;
-    memcpy(known_ring, noise(sizeof known_ring), sizeof known_ring);
-    model_trivium_load(&trivium, known_ring + 10 * parts.key_number, parts.value);
-    model_trivium_warm_up(&trivium);
-    for (size_t i = 0; i < 2 * parts.samples; i++) keystream[i] = model_trivium_next_byte(&trivium);
+    union model_generator generator;
+    memcpy(known_keys, noise(sizeof known_keys), sizeof known_keys);
+    model_cipher_start(&generator, cipher(), known_keys, parts.key_number, parts.value);
+    for (size_t i = 0; i < 2 * parts.samples; i++) keystream[i] = cipher()->next_byte(&generator);
     write_file();
     for (size_t i = 0; i < parts.samples; i++) put_word(i, (uint16_t)sound[i]);
 }
@@ -528,7 +606,7 @@ static void write_known_file(void) {
 /* The samples of the file are its words, but for the lowest. */
 static void open_known_file(void) {
     plan_number(0);
-    open_file(run_of(known_ring, sizeof known_ring), enough(parts.samples), enough(7));
+    open_file(run_of(known_keys, sizeof known_keys), enough(parts.samples), enough(7));
     for (size_t i = 0; i < parts.samples; i++) {
         unsigned word = word_at(i), told = (uint16_t)sound[i];
         if (word == LOWEST_WORD) times_read_at[stand_of(i, parts.samples)]++;
@@ -544,15 +622,16 @@ static void seal_opened(void) {
     memcpy(loops, after(1), sizeof loops);
     struct sealing sealing = {
         .name = run_of(file + opened[SEMIVRAKH_OPENED_NAME_AT], opened[SEMIVRAKH_OPENED_NAME_LENGTH]),
-        .ring = run_of(known_ring, sizeof known_ring),
+        .keys = run_of(known_keys, sizeof known_keys),
+        .cipher = opened_key_count(),
         .key_number = (uint8_t)opened[SEMIVRAKH_OPENED_KEY],
-        .value = run_of(file + opened[SEMIVRAKH_OPENED_VALUE_AT], 10),
+        .value = run_of(file + opened[SEMIVRAKH_OPENED_VALUE_AT], opened_key_count() - 1),
         .samples = run_of(sound, opened[SEMIVRAKH_OPENED_SAMPLES]),
         .loops = run_of(loops, *(const size_t *)after(2)),
         .output = room(enough(file_length)),
     };
     plan_number(0);
-    compare_pack_seal(&sealing);
+    seal(&sealing);
 }
 
 static bool is_file(const void *bytes, size_t length) {
@@ -670,6 +749,27 @@ void cut_packs(void) {
     }
 }
 
+static bool each_cipher_often_enough(const char *what, const uint64_t times[MODEL_CIPHERS], uint64_t each) {
+    bool enough = true;
+    printf("%-15s", what);
+    for (unsigned which = 0; which < MODEL_CIPHERS; which++) {
+        printf(" %s:%" PRIu64, model_ciphers[which].name, times[which]);
+    }
+    printf("\n");
+    for (unsigned which = 0; which < MODEL_CIPHERS; which++) {
+        if (times[which] >= each) continue;
+        printf("FAILED: %s %s only %" PRIu64 " times\n", what, model_ciphers[which].name, times[which]);
+        enough = false;
+    }
+    return enough;
+}
+
+bool ciphers_often_enough(uint64_t each) {
+    bool enough = each_cipher_often_enough("opened under", times_opened, each);
+    enough &= each_cipher_often_enough("sealed under", times_sealed, each);
+    return enough;
+}
+
 bool cuts_often_enough(uint64_t each) {
     bool enough = true;
     printf("cut in its     ");
@@ -688,15 +788,21 @@ static void choose_random_file(void) {
     memcpy(file, noise(file_length), file_length);
 }
 
+/* A front that can be read up to the loop count: no name, a key of either cipher, and no samples. */
+static void put_readable_front(void) {
+    const struct model_cipher *under = &model_ciphers[random_below(MODEL_CIPHERS)];
+    file[0] = 0;
+    file[1] = under->key_count;
+    file[2] &= 3;
+    memset(file + 3 + under->value_bytes, 0, 4);
+}
+
 void random_packs(void) {
     for (int i = 0; i < 20; i++) {
         choose_random_file();
         read_file_in(random_below(50));
         choose_random_file();
-        file[0] = 0;
-        file[1] = 11;
-        file[2] &= 3;
-        memset(file + 13, 0, 4);
+        put_readable_front();
         read_file_in(random_below(50));
     }
 }

@@ -1,37 +1,50 @@
-// The headers as C++: every call is named and linked, one stream and one pack go there and back, one empty sound goes
-// over the link, and each number for no has its words.
+// The headers as C++: every call is named and linked, one stream and one pack under each cipher go there and back, one
+// empty sound goes over the link, and each number for no has its words.
 #include "semivrakh_words.h"
 #include "semivrakh.h"
 
 #include <cstdio>
 #include <cstring>
 
-static const uint8_t key[SEMIVRAKH_KEY_BYTES] = {}, value[SEMIVRAKH_VALUE_BYTES] = {};
-static const uint8_t ring[SEMIVRAKH_RING_BYTES] = {};
+// Zeros: each key, each initial value and a pair name is a front of them.
+static const uint8_t keys[SEMIVRAKH_KEYS_BYTES] = {};
 
-static bool stream_comes_back() {
+static bool trivium_comes_back() {
     const uint8_t plain[5] = {'s', 'o', 'u', 'n', 'd'};
+    const size_t key = SEMIVRAKH_KEY_BYTES, value = SEMIVRAKH_VALUE_BYTES;
     uint8_t cipher[SEMIVRAKH_CIPHER_BYTES], sealed[sizeof plain], opened[sizeof plain];
-    int no = semivrakh_cipher_make(cipher, sizeof cipher, key, sizeof key, value, sizeof value);
+    int no = semivrakh_cipher_make(cipher, sizeof cipher, keys, key, keys, value);
     no |= semivrakh_cipher_encipher(cipher, sizeof cipher, plain, sizeof plain, sealed, sizeof sealed);
-    no |= semivrakh_cipher_make(cipher, sizeof cipher, key, sizeof key, value, sizeof value);
+    no |= semivrakh_cipher_make(cipher, sizeof cipher, keys, key, keys, value);
     no |= semivrakh_cipher_encipher(cipher, sizeof cipher, sealed, sizeof sealed, opened, sizeof opened);
     return no == SEMIVRAKH_OK && std::memcmp(plain, opened, sizeof plain) == 0;
 }
 
-static bool pack_comes_back() {
+static bool enocoro_comes_back() {
+    const uint8_t plain[5] = {'s', 'o', 'u', 'n', 'd'};
+    const size_t key = SEMIVRAKH_ENOCORO_KEY_BYTES, value = SEMIVRAKH_ENOCORO_VALUE_BYTES;
+    uint8_t cipher[SEMIVRAKH_ENOCORO_BYTES], sealed[sizeof plain], opened[sizeof plain];
+    int no = semivrakh_enocoro_make(cipher, sizeof cipher, keys, key, keys, value);
+    no |= semivrakh_enocoro_encipher(cipher, sizeof cipher, plain, sizeof plain, sealed, sizeof sealed);
+    no |= semivrakh_enocoro_make(cipher, sizeof cipher, keys, key, keys, value);
+    no |= semivrakh_enocoro_encipher(cipher, sizeof cipher, sealed, sizeof sealed, opened, sizeof opened);
+    return no == SEMIVRAKH_OK && std::memcmp(plain, opened, sizeof plain) == 0;
+}
+
+static bool pack_comes_back(uint8_t cipher, size_t value) {
     const int16_t samples[2] = {-1, 1};
     const uint32_t loop[2] = {0, 2};
     uint8_t pack[64];
     int16_t opened[2];
     uint32_t loops[2];
     size_t length = 0, loop_numbers = 0, surveyed[SEMIVRAKH_OPENED_NUMBERS], numbers[SEMIVRAKH_OPENED_NUMBERS];
-    int no = semivrakh_pack_seal(nullptr, 0, ring, sizeof ring, 0, value, sizeof value, samples, 2, loop, 2,
+    int no = semivrakh_pack_seal(nullptr, 0, keys, sizeof keys, cipher, 0, keys, value, samples, 2, loop, 2,
                                  pack, sizeof pack, &length);
     no |= semivrakh_pack_survey(pack, length, surveyed, SEMIVRAKH_OPENED_NUMBERS);
-    no |= semivrakh_pack_open(pack, length, ring, sizeof ring, opened, 2, numbers, SEMIVRAKH_OPENED_NUMBERS);
+    no |= semivrakh_pack_open(pack, length, keys, sizeof keys, opened, 2, numbers, SEMIVRAKH_OPENED_NUMBERS);
     no |= semivrakh_pack_loops(pack, length, loops, 2, &loop_numbers);
-    return no == SEMIVRAKH_OK && loop_numbers == 2 && std::memcmp(surveyed, numbers, sizeof numbers) == 0
+    return no == SEMIVRAKH_OK && pack[surveyed[SEMIVRAKH_OPENED_VALUE_AT] - 2] == cipher
+        && loop_numbers == 2 && std::memcmp(surveyed, numbers, sizeof numbers) == 0
         && semivrakh_pack_lacks(pack, length) == 0 && semivrakh_pack_lacks(pack, length - 1) == 1
         && std::memcmp(opened, samples, sizeof samples) == 0 && std::memcmp(loops, loop, sizeof loop) == 0;
 }
@@ -40,8 +53,9 @@ static bool empty_sound_arrives() {
     uint8_t sender[SEMIVRAKH_SENDER_BYTES], receiver[SEMIVRAKH_RECEIVER_BYTES];
     uint8_t frame[SEMIVRAKH_FRAME_MOST], answer[SEMIVRAKH_ANSWER_MOST];
     size_t length = 0, answer_length = 0, sent[SEMIVRAKH_SENDER_NUMBERS], received[SEMIVRAKH_RECEIVER_NUMBERS];
-    int no = semivrakh_sender_make(sender, sizeof sender, key, sizeof key, value, SEMIVRAKH_PAIR_BYTES);
-    no |= semivrakh_receiver_make(receiver, sizeof receiver, key, sizeof key, value, SEMIVRAKH_PAIR_BYTES);
+    const size_t key = SEMIVRAKH_KEY_BYTES, pair = SEMIVRAKH_PAIR_BYTES;
+    int no = semivrakh_sender_make(sender, sizeof sender, keys, key, keys, pair);
+    no |= semivrakh_receiver_make(receiver, sizeof receiver, keys, key, keys, pair);
     no |= semivrakh_sender_begin(sender, sizeof sender, nullptr, 0);
     no |= semivrakh_sender_send(sender, sizeof sender, nullptr, 0, frame, sizeof frame, &length);
     no |= semivrakh_receiver_hear(receiver, sizeof receiver, frame, length, nullptr, 0, answer, sizeof answer,
@@ -95,8 +109,11 @@ static int failed(const char *what) {
 }
 
 int main() {
-    if (!stream_comes_back()) return failed("a stream comes back as another");
-    if (!pack_comes_back()) return failed("a pack comes back as another");
+    if (!trivium_comes_back() || !enocoro_comes_back()) return failed("a stream comes back as another");
+    if (!pack_comes_back(SEMIVRAKH_TRIVIUM, SEMIVRAKH_VALUE_BYTES)
+        || !pack_comes_back(SEMIVRAKH_ENOCORO, SEMIVRAKH_ENOCORO_VALUE_BYTES)) {
+        return failed("a pack comes back as another");
+    }
     if (!empty_sound_arrives()) return failed("an empty sound doesn't arrive");
     if (semivrakh_version() != SEMIVRAKH_VERSION) return failed("the library has another version than the header");
     if (!each_number_has_words()) return failed("the words don't fit the numbers for no");

@@ -11,11 +11,13 @@
 const uint8_t listed_refusals[CALLS][REFUSALS_MOST] = {
     [CIPHER_MAKE] = {1, 2, 19},
     [CIPHER_ENCIPHER] = {3, 19},
+    [ENOCORO_MAKE] = {1, 2, 19},
+    [ENOCORO_ENCIPHER] = {3, 19},
     [PACK_OPEN] = {1, 11, 30, 12, 13, 31, 14, 15, 32, 16, 33, 17, 18, 19},
     [PACK_SURVEY] = {11, 30, 12, 13, 31, 14, 15, 32, 16, 33, 17, 18, 19},
     [PACK_LOOPS] = {11, 30, 12, 13, 31, 14, 15, 32, 16, 33, 17, 18, 19},
     [PACK_LACKS] = {0},
-    [PACK_SEAL] = {1, 11, 12, 2, 14, 15, 34, 16, 17, 19},
+    [PACK_SEAL] = {1, 11, 12, 13, 2, 14, 15, 34, 16, 17, 19},
     [SENDER_MAKE] = {1, 2, 19},
     [SENDER_BEGIN] = {27, 21, 20},
     [SENDER_SEND] = {27, 22, 23, 19},
@@ -28,6 +30,7 @@ const uint8_t listed_refusals[CALLS][REFUSALS_MOST] = {
 
 const char *const call_names[CALLS] = {
     [CIPHER_MAKE] = "cipher_make",     [CIPHER_ENCIPHER] = "cipher_encipher",
+    [ENOCORO_MAKE] = "enocoro_make",   [ENOCORO_ENCIPHER] = "enocoro_encipher",
     [PACK_OPEN] = "pack_open",         [PACK_SURVEY] = "pack_survey",
     [PACK_LOOPS] = "pack_loops",       [PACK_LACKS] = "pack_lacks",
     [PACK_SEAL] = "pack_seal",         [SENDER_MAKE] = "sender_make",

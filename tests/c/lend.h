@@ -14,6 +14,8 @@ enum side { LIBRARY, MODEL, SIDES };
 enum call {
     CIPHER_MAKE,
     CIPHER_ENCIPHER,
+    ENOCORO_MAKE,
+    ENOCORO_ENCIPHER,
     PACK_OPEN,
     PACK_SURVEY,
     PACK_LOOPS,

@@ -9,6 +9,8 @@ struct model_rules model_rules = {
         [MODEL_B] = {.near = 69, .oldest = 84, .factor = 83, .other_factor = 82, .own = 78},
         [MODEL_C] = {.near = 66, .oldest = 111, .factor = 110, .other_factor = 109, .own = 87},
     },
+    .box = {1, 3, 9, 10, 5, 14, 7, 2, 13, 0, 12, 15, 4, 8, 6, 11},
+    .boxed = {2, 7, 16, 29},
     .number = {
         [MODEL_BAD_KEY] = 1,
         [MODEL_BAD_VALUE] = 2,

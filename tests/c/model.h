@@ -50,8 +50,13 @@ struct model_taps {
 
 enum { MODEL_A, MODEL_B, MODEL_C, MODEL_REGISTERS };
 
+/* Enocoro's small box s4, and the places of b that go through the box S8 and into a. */
+enum { MODEL_BOX = 16, MODEL_BOXED = 4 };
+
 struct model_rules {
     struct model_taps taps[MODEL_REGISTERS];
+    uint8_t box[MODEL_BOX];
+    unsigned boxed[MODEL_BOXED];
     uint8_t number[MODEL_REASONS];
     size_t lacks_besides; /* what a cut file lacks besides the bytes of the count or body that it ends in */
     int lowest_opened;    /* the lowest sample that opening writes */
@@ -80,6 +85,51 @@ uint8_t model_trivium_next_byte(struct model_trivium *trivium);
 /* The bit k steps back of a register, 1 being the newest. */
 unsigned model_trivium_bit(const struct model_trivium *trivium, int which, unsigned k);
 unsigned model_width(int which);
+void model_trivium_read_record(struct model_trivium *trivium, const uint8_t *record);
+void model_trivium_write_record(uint8_t *record, const struct model_trivium *trivium);
+
+/* Enocoro-128v2, one byte a round. */
+struct model_enocoro {
+    uint8_t a[2], b[32];
+};
+
+/* Steps a) to c) of its beginning; step e) once, which moves the counter on as well; and all of d) and e). */
+void model_enocoro_load(struct model_enocoro *enocoro, const uint8_t key[16], const uint8_t value[8]);
+void model_enocoro_blank_round(struct model_enocoro *enocoro, uint8_t *counter);
+void model_enocoro_warm_up(struct model_enocoro *enocoro);
+uint8_t model_enocoro_next_byte(struct model_enocoro *enocoro);
+uint8_t model_enocoro_s8(uint8_t x);
+/* A record is a and then b. */
+void model_enocoro_read_record(struct model_enocoro *enocoro, const uint8_t *record);
+void model_enocoro_write_record(uint8_t *record, const struct model_enocoro *enocoro);
+
+/* What packs may be under, each in the same words: its lengths, and a generator that is started, put into a record and
+ * taken out of one. */
+enum { MODEL_TRIVIUM, MODEL_ENOCORO, MODEL_CIPHERS };
+
+union model_generator {
+    struct model_trivium trivium;
+    struct model_enocoro enocoro;
+};
+
+struct model_cipher {
+    const char *name;
+    uint8_t key_count; /* what a pack under it says: so many bytes are a key number and an initial value */
+    size_t record_bytes, key_bytes, value_bytes;
+    size_t keys_at; /* where its four keys begin among all keys */
+    /* Up to the first byte of its keystream, and that byte and on. */
+    void (*start)(union model_generator *generator, const uint8_t *key, const uint8_t *value);
+    uint8_t (*next_byte)(union model_generator *generator);
+    void (*read_record)(union model_generator *generator, const uint8_t *record);
+    void (*write_record)(uint8_t *record, const union model_generator *generator);
+};
+
+extern const struct model_cipher model_ciphers[MODEL_CIPHERS];
+/* Which of them has this key count; MODEL_CIPHERS if none has it. */
+unsigned model_cipher_of(uint32_t key_count);
+/* Its generator, started under one of its four keys. */
+void model_cipher_start(union model_generator *generator, const struct model_cipher *cipher, const uint8_t *keys,
+                        size_t key_number, const uint8_t *value);
 
 /* Numbers of several bytes, the most significant first. */
 uint32_t model_number_at(const uint8_t *bytes, size_t count);
@@ -96,8 +146,14 @@ uint8_t model_cipher_make(uint8_t *cipher, size_t cipher_length,
 uint8_t model_cipher_encipher(uint8_t *cipher, size_t cipher_length,
                               const uint8_t *input, size_t input_length,
                               uint8_t *output, size_t output_length);
+uint8_t model_enocoro_make(uint8_t *cipher, size_t cipher_length,
+                           const uint8_t *key, size_t key_length,
+                           const uint8_t *value, size_t value_length);
+uint8_t model_enocoro_encipher(uint8_t *cipher, size_t cipher_length,
+                               const uint8_t *input, size_t input_length,
+                               uint8_t *output, size_t output_length);
 uint8_t model_pack_open(const uint8_t *file, size_t file_length,
-                        const uint8_t *ring, size_t ring_length,
+                        const uint8_t *keys, size_t keys_length,
                         int16_t *samples, size_t sample_room,
                         size_t *answer, size_t answer_room);
 uint8_t model_pack_survey(const uint8_t *file, size_t file_length,
@@ -107,8 +163,8 @@ uint8_t model_pack_loops(const uint8_t *file, size_t file_length,
                          size_t *loop_numbers);
 size_t model_pack_lacks(const uint8_t *file, size_t file_length);
 uint8_t model_pack_seal(const uint8_t *name, size_t name_length,
-                        const uint8_t *ring, size_t ring_length,
-                        uint8_t key_number,
+                        const uint8_t *keys, size_t keys_length,
+                        uint8_t key_count, uint8_t key_number,
                         const uint8_t *value, size_t value_length,
                         const int16_t *samples, size_t sample_count,
                         const uint32_t *loops, size_t loop_numbers,

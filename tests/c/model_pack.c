@@ -3,7 +3,7 @@
 
 #include "model.h"
 
-enum { RING_BYTES = 40, KEY_COUNT = 11, KEYS = 4, LOOP_BYTES = 8 };
+enum { KEYS_BYTES = 4 * 10 + 4 * 16, KEYS = 4, LOOP_BYTES = 8 };
 
 /* Where the reader stands, and the first thing that it found wrong. */
 struct reader {
@@ -55,13 +55,21 @@ static void read_name(struct reader *reader, size_t *length, size_t *at) {
     }
 }
 
-static void read_key(struct reader *reader, size_t *key_number, size_t *value_at) {
+/* The cipher by its key count; NULL if it is that of none. */
+static const struct model_cipher *cipher_of(uint32_t key_count) {
+    unsigned which = model_cipher_of(key_count);
+    return which < MODEL_CIPHERS ? &model_ciphers[which] : NULL;
+}
+
+static void read_key(struct reader *reader, const struct model_cipher **cipher, size_t *key_number, size_t *value_at) {
     reader->cut = MODEL_CUT_IN_KEY;
-    if (take_count(reader, 1) != KEY_COUNT) refuse(reader, MODEL_BAD_KEY_COUNT);
-    const uint8_t *body = take(reader, KEY_COUNT);
+    uint32_t count = take_count(reader, 1);
+    *cipher = cipher_of(count);
+    if (*cipher == NULL) refuse(reader, MODEL_BAD_KEY_COUNT);
+    const uint8_t *body = take(reader, count);
     if (body == NULL) return;
     *key_number = body[0];
-    *value_at = reader->at - 10;
+    *value_at = reader->at - (*cipher)->value_bytes;
     if (*key_number >= KEYS) refuse(reader, MODEL_BAD_KEY_NUMBER);
 }
 
@@ -86,10 +94,11 @@ static void read_loops(struct reader *reader, size_t samples, size_t *count, siz
     }
 }
 
-/* What a file says of itself: the seven numbers by the header's index, and where its samples stand. If it is cut, what
- * it lacks. */
+/* What a file says of itself: the seven numbers by the header's index, its cipher, and where its samples stand. If it
+ * is cut, what it lacks. */
 struct pack {
     size_t numbers[SEMIVRAKH_OPENED_NUMBERS];
+    const struct model_cipher *cipher;
     const uint8_t *enciphered;
     size_t lacks;
 };
@@ -99,7 +108,7 @@ static uint8_t read_pack(struct pack *pack, const uint8_t *file, size_t file_len
     struct reader reader = {.file = file, .length = file_length};
     size_t *numbers = pack->numbers, *samples = &numbers[SEMIVRAKH_OPENED_SAMPLES];
     read_name(&reader, &numbers[SEMIVRAKH_OPENED_NAME_LENGTH], &numbers[SEMIVRAKH_OPENED_NAME_AT]);
-    read_key(&reader, &numbers[SEMIVRAKH_OPENED_KEY], &numbers[SEMIVRAKH_OPENED_VALUE_AT]);
+    read_key(&reader, &pack->cipher, &numbers[SEMIVRAKH_OPENED_KEY], &numbers[SEMIVRAKH_OPENED_VALUE_AT]);
     read_samples(&reader, samples, &pack->enciphered);
     read_loops(&reader, *samples, &numbers[SEMIVRAKH_OPENED_LOOPS], &numbers[SEMIVRAKH_OPENED_LOOPS_AT]);
     if (reader.at != file_length) refuse(&reader, MODEL_MORE_BYTES);
@@ -134,11 +143,6 @@ size_t model_pack_lacks(const uint8_t *file, size_t file_length) {
     return pack.lacks;
 }
 
-static void start_cipher(struct model_trivium *trivium, const uint8_t *ring, size_t key_number, const uint8_t *value) {
-    model_trivium_load(trivium, ring + 10 * key_number, value);
-    model_trivium_warm_up(trivium);
-}
-
 /* Two plain bytes as a signed word: from 32,768 on, the numbers below zero. */
 static int signed_word(unsigned high, unsigned low) {
     int word = (int)(256 * high + low);
@@ -151,11 +155,11 @@ static int16_t sample_of(int word) {
 }
 
 uint8_t model_pack_open(const uint8_t *file, size_t file_length,
-                        const uint8_t *ring, size_t ring_length,
+                        const uint8_t *keys, size_t keys_length,
                         int16_t *samples, size_t sample_room,
                         size_t *answer, size_t answer_room) {
     struct pack pack;
-    if (ring_length != RING_BYTES) return model_no(MODEL_BAD_KEY);
+    if (keys_length != KEYS_BYTES) return model_no(MODEL_BAD_KEY);
     uint8_t no = read_pack(&pack, file, file_length);
     if (no != 0) return no;
     size_t count = pack.numbers[SEMIVRAKH_OPENED_SAMPLES];
@@ -163,11 +167,12 @@ uint8_t model_pack_open(const uint8_t *file, size_t file_length,
     no = model_answer(answer, answer_room, pack.numbers, SEMIVRAKH_OPENED_NUMBERS);
     if (no != 0) return no;
 
-    struct model_trivium trivium;
-    start_cipher(&trivium, ring, pack.numbers[SEMIVRAKH_OPENED_KEY], file + pack.numbers[SEMIVRAKH_OPENED_VALUE_AT]);
+    union model_generator generator;
+    model_cipher_start(&generator, pack.cipher, keys, pack.numbers[SEMIVRAKH_OPENED_KEY],
+                       file + pack.numbers[SEMIVRAKH_OPENED_VALUE_AT]);
     for (size_t i = 0; i < count; i++) {
-        unsigned high = pack.enciphered[2 * i] ^ model_trivium_next_byte(&trivium);
-        unsigned low = pack.enciphered[2 * i + 1] ^ model_trivium_next_byte(&trivium);
+        unsigned high = pack.enciphered[2 * i] ^ pack.cipher->next_byte(&generator);
+        unsigned low = pack.enciphered[2 * i + 1] ^ pack.cipher->next_byte(&generator);
         samples[i] = sample_of(signed_word(high, low));
     }
     return 0;
@@ -209,38 +214,40 @@ static void put_bytes(struct writer *writer, const uint8_t *bytes, size_t count)
 }
 
 uint8_t model_pack_seal(const uint8_t *name, size_t name_length,
-                        const uint8_t *ring, size_t ring_length,
-                        uint8_t key_number,
+                        const uint8_t *keys, size_t keys_length,
+                        uint8_t key_count, uint8_t key_number,
                         const uint8_t *value, size_t value_length,
                         const int16_t *samples, size_t sample_count,
                         const uint32_t *loops, size_t loop_numbers,
                         uint8_t *output, size_t output_length,
                         size_t *file_length) {
-    if (ring_length != RING_BYTES) return model_no(MODEL_BAD_KEY);
+    if (keys_length != KEYS_BYTES) return model_no(MODEL_BAD_KEY);
     if (name_length > SEMIVRAKH_NAME_MOST) return model_no(MODEL_LONG_NAME);
     if (!name_allowed(name, name_length)) return model_no(MODEL_BAD_NAME);
-    if (value_length != 10) return model_no(MODEL_BAD_VALUE);
+    const struct model_cipher *cipher = cipher_of(key_count);
+    if (cipher == NULL) return model_no(MODEL_BAD_KEY_COUNT);
+    if (value_length != cipher->value_bytes) return model_no(MODEL_BAD_VALUE);
     if (key_number >= KEYS) return model_no(MODEL_BAD_KEY_NUMBER);
     if (sample_count > SEMIVRAKH_SAMPLES_MOST) return model_no(MODEL_MANY_SAMPLES);
     if (!samples_allowed(samples, sample_count)) return model_no(MODEL_LOWEST_SAMPLE);
     if (loop_numbers > 2 * SEMIVRAKH_LOOPS_MOST || loop_numbers % 2 != 0) return model_no(MODEL_MANY_LOOPS);
     if (!loops_allowed(loops, loop_numbers, sample_count)) return model_no(MODEL_BAD_LOOP);
-    size_t length = (1 + name_length) + (1 + KEY_COUNT) + (4 + 2 * sample_count) + (1 + 4 * loop_numbers);
+    size_t length = (1 + name_length) + (1u + key_count) + (4 + 2 * sample_count) + (1 + 4 * loop_numbers);
     if (output_length < length) return model_no(MODEL_NO_ROOM);
 
     struct writer writer = {.output = output};
     put_number(&writer, 1, (uint32_t)name_length);
     put_bytes(&writer, name, name_length);
-    put_number(&writer, 1, KEY_COUNT);
+    put_number(&writer, 1, key_count);
     put_number(&writer, 1, key_number);
-    put_bytes(&writer, value, 10);
+    put_bytes(&writer, value, value_length);
     put_number(&writer, 4, (uint32_t)sample_count);
-    struct model_trivium trivium;
-    start_cipher(&trivium, ring, key_number, value);
+    union model_generator generator;
+    model_cipher_start(&generator, cipher, keys, key_number, value);
     for (size_t i = 0; i < sample_count; i++) {
         unsigned word = samples[i] < 0 ? (unsigned)(samples[i] + 65536) : (unsigned)samples[i];
-        put_number(&writer, 1, (word / 256) ^ model_trivium_next_byte(&trivium));
-        put_number(&writer, 1, (word % 256) ^ model_trivium_next_byte(&trivium));
+        put_number(&writer, 1, (word / 256) ^ cipher->next_byte(&generator));
+        put_number(&writer, 1, (word % 256) ^ cipher->next_byte(&generator));
     }
     put_number(&writer, 1, (uint32_t)(loop_numbers / 2));
     for (size_t i = 0; i < loop_numbers; i++) put_number(&writer, 4, loops[i]);

@@ -1,4 +1,4 @@
-/* The keystream of ISO/IEC 29192-3, clause 6.3, bit by bit, and the cipher's calls. */
+/* The keystream of ISO/IEC 29192-3, clause 6.3, bit by bit, and its record. */
 #include <string.h>
 
 #include "model.h"
@@ -100,9 +100,9 @@ uint8_t model_trivium_next_byte(struct model_trivium *trivium) {
 /* In a record each register has 16 bytes, as one number whose lowest bit is the newest. */
 enum { REGISTER_BYTES = 16 };
 
-static void read_record(struct model_trivium *trivium, const uint8_t *cipher) {
+void model_trivium_read_record(struct model_trivium *trivium, const uint8_t *record) {
     for (int which = 0; which < MODEL_REGISTERS; which++) {
-        const uint8_t *number = cipher + REGISTER_BYTES * which;
+        const uint8_t *number = record + REGISTER_BYTES * which;
         trivium->registers[which].next = 0;
         for (unsigned k = widths[which]; k > 0; k--) {
             unsigned bit = number[REGISTER_BYTES - 1 - (k - 1) / 8] >> ((k - 1) % 8) & 1;
@@ -111,38 +111,13 @@ static void read_record(struct model_trivium *trivium, const uint8_t *cipher) {
     }
 }
 
-static void write_record(uint8_t *cipher, const struct model_trivium *trivium) {
-    memset(cipher, 0, SEMIVRAKH_CIPHER_BYTES);
+void model_trivium_write_record(uint8_t *record, const struct model_trivium *trivium) {
+    memset(record, 0, SEMIVRAKH_CIPHER_BYTES);
     for (int which = 0; which < MODEL_REGISTERS; which++) {
-        uint8_t *number = cipher + REGISTER_BYTES * which;
+        uint8_t *number = record + REGISTER_BYTES * which;
         for (unsigned k = 1; k <= widths[which]; k++) {
             unsigned bit = model_trivium_bit(trivium, which, k);
             number[REGISTER_BYTES - 1 - (k - 1) / 8] |= (uint8_t)(bit << ((k - 1) % 8));
         }
     }
-}
-
-uint8_t model_cipher_make(uint8_t *cipher, size_t cipher_length,
-                          const uint8_t *key, size_t key_length,
-                          const uint8_t *value, size_t value_length) {
-    struct model_trivium trivium;
-    if (key_length != 10) return model_no(MODEL_BAD_KEY);
-    if (value_length != 10) return model_no(MODEL_BAD_VALUE);
-    if (cipher_length < SEMIVRAKH_CIPHER_BYTES) return model_no(MODEL_NO_ROOM);
-    model_trivium_load(&trivium, key, value);
-    model_trivium_warm_up(&trivium);
-    write_record(cipher, &trivium);
-    return 0;
-}
-
-uint8_t model_cipher_encipher(uint8_t *cipher, size_t cipher_length,
-                              const uint8_t *input, size_t input_length,
-                              uint8_t *output, size_t output_length) {
-    struct model_trivium trivium;
-    if (cipher_length != SEMIVRAKH_CIPHER_BYTES) return model_no(MODEL_NOT_A_CIPHER);
-    if (output_length < input_length) return model_no(MODEL_NO_ROOM);
-    read_record(&trivium, cipher);
-    for (size_t i = 0; i < input_length; i++) output[i] = input[i] ^ model_trivium_next_byte(&trivium);
-    write_record(cipher, &trivium);
-    return 0;
 }

@@ -1,37 +1,15 @@
--- What bytes make under a keystream, one run behind the other: two bytes are a sample, so a run of even length can be
--- followed by another. What was stored unturned is turned: a number's two bytes are those that it was made of.
-use mathlib.Core.{Path._≡_, Path.sym, Path.ap, Path.ap₂, Path._∙_, List.List, List.[], List._∷_, List._++_, List.map}
-use Prim.Native.Nat.{ℕ, _+_, _*_, _/_, _%_, _^_, _<_, _≤_}
+-- Four samples at once are a word's bytes by twos. What was stored unturned is turned: a number's two bytes are those that
+-- it was made of.
+use mathlib.Core.{Path._≡_, Path.sym, Path.ap, Path.ap₂, Path._∙_, List.List, List.[], List._∷_, List.map}
+use Prim.Native.Nat.{ℕ, _+_, _*_, _/_, _%_, _^_, _<_}
 use native.Mathlib.Omega.{arith}
-use lib.{IntN.ℤ, ListN.length, Pow.shr-shr}
-use Rattle.octets.specs.{Buffers.put, Digits.numberAfter, Digits.digits, Stream.Keystream, Stream.enciphered}
-use Rattle.octets.proofs.{Numbers.Below, Streams.OfBytes, Streams.length-enciphered, Streams.below-enciphered}
-use Rattle.octets.proofs.Streams.{read-on}
+use lib.{IntN.ℤ, Pow.shr-shr}
+use Rattle.octets.specs.{Digits.numberAfter, Digits.digits, Stream.Keystream, Stream.enciphered}
+use Rattle.octets.proofs.{Numbers.Below, Streams.OfBytes, Streams.below-enciphered}
 use Rattle.samples.specs.Words.{signed, plainWord, wordOf, swapped, byTwos, wordsOf}
 use Rattle.samples.proofs.{Reversed.swapped-digits, Words.unsigned-signed, Words.word-small}
-use Rattle.samples.proofs.Words.{length-twos, twos-append, twos-map}
-use Rattle.trivium.specs.{Keystream.keystream, Registers.State, Registers.steps}
-use Rattle.trivium.proofs.Bytes.{keystream-from}
+use Rattle.samples.proofs.Words.{twos-map}
 use Rattle.body_reader.specs.Unturned.{lowFirst, unturned, turned}
-
-module _ (make : ℕ → ℕ → ℤ) where
-  pub length-read : (k : Keystream) (bytes : List ℕ) → length (byTwos make (enciphered k bytes)) ≡ length bytes / 2
-  length-read k bytes = length-twos make (enciphered k bytes) ∙ ap (λ (n : ℕ). n / 2) (length-enciphered k bytes)
-
-  -- registers that have gone past xs go on with ys
-  pub samples-on : (s now : State) (xs ys : List ℕ) (d : List ℤ) (place : ℕ) {e : List ℤ} {next : ℕ}
-      → length xs % 2 ≡ 0
-      → now ≡ steps (8 * length xs) s → e ≡ put d place (byTwos make (enciphered (keystream s) xs))
-      → next ≡ place + length xs / 2
-      → next + length ys / 2 ≤ length d
-      → put e next (byTwos make (enciphered (keystream now) ys))
-      ≡ put d place (byTwos make (enciphered (keystream s) (xs ++ ys)))
-  samples-on s now xs ys d place even gone done there room =
-      let front = length-read (keystream s) xs in
-      let behind = length-read (keystream now) ys in
-      read-on (byTwos make) (keystream s) xs ys d place
-      (λ us vs e. twos-append make (length xs / 2) us vs (omega arith))
-      (ap keystream gone ∙ sym (keystream-from (length xs) s)) done (omega arith) (omega arith)
 
 -- ---- four at once
 

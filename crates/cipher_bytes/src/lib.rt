@@ -5,7 +5,8 @@ ghost use mathlib.Core.Path.{_≡_};
 ghost use lib.ListN.{length};
 ghost use Rattle.octets.specs.Buffers.{put};
 ghost use Rattle.refusals.specs.Outcome.{outcome};
-ghost use Rattle.cipher_bytes.specs.Calls.{cipherMake, ciphered, cipherEncipher};
+ghost use Rattle.record_bytes.specs.Ciphers.{ciphered};
+ghost use Rattle.cipher_bytes.specs.Calls.{cipherMake, cipherEncipher};
 ghost use Rattle.cipher_bytes.specs.Record.{cipherSize, cipherBytes, cipherIn};
 
 pub const CIPHER_BYTES: usize = 48;

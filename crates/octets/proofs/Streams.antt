@@ -1,29 +1,38 @@
 -- The laws of bytes under any keystream. Each goes along the bytes, and moves the keystream on by one at each.
 use mathlib.Core.Path.{_≡_, refl, sym, ap, ap₂, subst, _∙_}
-use mathlib.Core.List.{List, [], _∷_, _++_}
+use mathlib.Core.List.{List, [], _∷_, _++_, append-assoc}
 use Prim.Native.Nat.{ℕ, zero, suc, _+_, _*_, _/_, _%_, _^_, _<_, _≤_}
 use native.Mathlib.{Nat.zero-add, Nat.add-assoc, Nat.pow-suc, Numerals.one-add, Omega.arith}
 use lib.Bits.{bitXor, xor-lt, xor-shr, xor-mod}
-use lib.ListN.{length, getD, take, drop}
-use lib.Pow.{pow-add}
+use lib.ListN.{length, getD, set, take, drop}
+use lib.{Pow.pow-add, Seq.take-at, Seq.drop-at, Seq.length-take-le, Seq.paste}
 use Rattle.octets.specs.Digits.{number, digits, numberAt, word}
 use Rattle.octets.specs.Buffers.{slice, placed, put}
 use Rattle.octets.specs.Stream.{Keystream, from, enciphered}
 use Rattle.octets.proofs.{Bits.xor-twice, Slices.length-slice, Slices.slice-add}
 use Rattle.octets.proofs.Buffers.{put-placed, length-put, placed-append, take-placed, drop-placed, placed-cut}
-use Rattle.octets.proofs.Buffers.{puts-on}
+use Rattle.octets.proofs.Buffers.{put-whole, puts-on, paste-ahead, paste-front, paste-all}
 use Rattle.octets.proofs.Numbers.{Below, below-slice, digits-number, number-read}
 
-from-zero : (k : Keystream) → from 0 k ≡ k
+pub from-zero : (k : Keystream) → from 0 k ≡ k
 from-zero k = λ i n. k (zero-add n i)
 
-from-from : (m n : ℕ) (k : Keystream) → from m (from n k) ≡ from (n + m) k
+pub from-from : (m n : ℕ) (k : Keystream) → from m (from n k) ≡ from (n + m) k
 from-from m n k = λ i j. k (sym (add-assoc n m j) i)
 
 pub length-enciphered : (k : Keystream) (xs : List ℕ) → length (enciphered k xs) ≡ length xs
 unfolding enciphered
 length-enciphered k [] = refl
 length-enciphered k (x ∷ xs) = ap suc (length-enciphered (from 1 k) xs)
+
+-- byte number i
+pub enciphered-at : (k : Keystream) (xs : List ℕ) (i : ℕ) → i < length xs
+    → getD (enciphered k xs) i 0 ≡ bitXor (getD xs i 0) (k i)
+unfolding enciphered
+enciphered-at k [] i h = absurd (omega arith)
+enciphered-at k (x ∷ xs) zero h = refl
+enciphered-at k (x ∷ xs) (suc i) h =
+    enciphered-at (from 1 k) xs i (omega arith) ∙ ap (λ (n : ℕ). bitXor (getD xs i 0) (k n)) (one-add i)
 
 -- a stream taken in two calls, cut anywhere, is the stream taken in one
 pub enciphered-append : (k : Keystream) (xs ys : List ℕ)
@@ -161,6 +170,23 @@ enciphered-cut k xs ys d h =
     ∙ placed-cut d front more (omega arith)
     ∙ ap (λ (n : ℕ). front ++ placed (drop n d) 0 more) long
 
+-- a run that stands in its place, lent by itself and enciphered
+pub in-place : (k : Keystream) (d run e : List ℕ) (at n : ℕ) → e ≡ put d at run → length run ≡ n → at + n ≤ length d
+    → take at e ++ (enciphered k (slice e at n) ++ drop n (drop at e)) ≡ put d at (enciphered k run)
+unfolding placed
+in-place k d run e at n done long room =
+    let rest : List ℕ = drop (at + length run) d in
+    let front : length (take at d) ≡ at = length-take-le at d (omega arith) in
+    let same : length (enciphered k run) ≡ length run = length-enciphered k run in
+    let there = done ∙ put-placed d at run (omega arith) ∙ append-assoc (take at d) run rest in
+    let before = ap (take at) there ∙ take-at (take at d) (run ++ rest) at front in
+    let on = ap (drop at) there ∙ drop-at (take at d) (run ++ rest) at front in
+    let held = ap (take n) on ∙ take-at run rest n long in
+    let behind = ap (drop n) on ∙ drop-at run rest n long ∙ ap (λ (m : ℕ). drop (at + m) d) (sym same) in
+    (λ i. before i ++ (enciphered k (held i) ++ behind i))
+    ∙ sym (append-assoc (take at d) (enciphered k run) (drop (at + length (enciphered k run)) d))
+    ∙ sym (put-placed d at (enciphered k run) (omega arith))
+
 -- ---- n bytes read as a number, under a word of keystream, and written back
 
 -- the last n bytes of a word are the keystream's first
@@ -199,3 +225,27 @@ two-under k input output left at m n one two hm hn bytes hi ho first done second
     run-put (from m k) input (at + m) n two hn (omega arith) bytes second left (omega arith)
     ∙ ap (λ (d : List ℕ). placed d (at + m) (enciphered (from m k) (slice input (at + m) n))) so
     ∙ runs-placed k input output at m n hi ho
+
+-- ---- bytes enciphered one by one where they stand
+
+module _ (k : Keystream) (bytes : List ℕ) where
+  -- the first i are enciphered, and byte number i, which stands there as it was, follows
+  pub one-covered : (i : ℕ) {left : List ℕ} {place byte : ℕ} → left ≡ paste bytes 0 (enciphered k bytes) i
+      → i < length bytes → place ≡ i → byte ≡ k i
+      → set left i (bitXor (getD left place 0) byte) ≡ paste bytes 0 (enciphered k bytes) (i + 1)
+  one-covered i {left} {place} {byte} done h there same =
+      let run : List ℕ = enciphered k bytes in
+      let long : length run ≡ length bytes = length-enciphered k bytes in
+      let ahead : getD left i 0 ≡ getD bytes i 0 =
+      ap (λ (l : List ℕ). getD l i 0) done ∙ paste-ahead bytes run i 0 h (omega arith) in
+      let new =
+      (λ j. bitXor (getD left (there j) 0) (same j)) ∙ ap (λ (x : ℕ). bitXor x (k i)) ahead
+      ∙ sym (enciphered-at k bytes i h) in
+      ap₂ (λ (l : List ℕ) (x : ℕ). set l i x) done new ∙ paste-front bytes run i 0 h (omega arith)
+
+  pub all-covered : {i : ℕ} {left : List ℕ} → left ≡ paste bytes 0 (enciphered k bytes) i → i ≡ length bytes
+      → left ≡ enciphered k bytes
+  all-covered {i} done whole =
+      let long : length (enciphered k bytes) ≡ length bytes = length-enciphered k bytes in
+      done ∙ paste-all bytes 0 (enciphered k bytes) i (omega arith) (omega arith)
+      ∙ put-whole bytes (enciphered k bytes) long

@@ -7,10 +7,11 @@ ghost use Prim.Native.Nat.{_+_, _*_, _≤_};
 ghost use lib.ListN.{length};
 ghost use Rattle.octets.specs.Digits.{numberAt};
 ghost use Rattle.octets.specs.Rows.{numbersAt};
+ghost use Rattle.pack.specs.Ciphers.{cipherOf, picked, cipherIn};
 ghost use Rattle.pack.specs.Faults.{loopSectionFaults, faultsFromSamples, faultsFromKey, fileFaults};
 ghost use Rattle.pack.specs.Layout.{loopsGood, fours};
+ghost use Rattle.pack.specs.Places.{byteAt};
 ghost use Rattle.refusals.specs.Rules.{verdictOf, verdict};
-ghost use Rattle.trivium.specs.Keystream as Keystream;
 
 fn verdict(number: u8, lacks: usize) -> Verdict
     ensures { λ r. ⌜ r ≡ verdictOf number lacks ⌝ }
@@ -96,15 +97,17 @@ fn sample_fault(file: &[u8], at: usize) -> Verdict
 // What a file has wrong from its key section on, which begins at `at`.
 fn key_fault(file: &[u8], at: usize) -> Verdict
     requires { ⌜ at ≤ length (now file) ⌝ }
-    ensures { λ r. ⌜ r ≡ verdict (faultsFromKey Keystream.trivium (now (file .entry)) at) ⌝ }
+    ensures { λ r. ⌜ r
+        ≡ verdict (faultsFromKey (cipherOf (picked (byteAt (now (file .entry)) at))) (now (file .entry)) at) ⌝ }
 {
     if file.len() < at + 1 {
         return verdict(refusals::CUT_IN_KEY, 1);
     }
-    if file[at] != pack::KEY_COUNT {
+    let count = file[at];
+    if count != pack::own_count(count) {
         return verdict(refusals::BAD_KEY_COUNT, 0);
     }
-    let end = at + 2 + trivium::VALUE_BYTES;
+    let end = at + 1 + (count as usize);
     if file.len() < end {
         return verdict(refusals::CUT_IN_KEY, end - file.len());
     }
@@ -116,7 +119,7 @@ fn key_fault(file: &[u8], at: usize) -> Verdict
 
 // What a file has wrong, from its name on: each section goes on to the one behind it.
 pub fn file_fault(file: &[u8]) -> Verdict
-    ensures { λ r. ⌜ r ≡ verdict (fileFaults Keystream.trivium (now (file .entry))) ⌝ }
+    ensures { λ r. ⌜ r ≡ verdict (fileFaults (cipherIn (now (file .entry))) (now (file .entry))) ⌝ }
 {
     if file.len() < 1 {
         return verdict(refusals::CUT_IN_NAME, 1);

@@ -16,13 +16,15 @@ use Rattle.refusals.proofs.Faults.{none-wrong, right-both, first-append, verdic
 use Rattle.refusals.proofs.Faults.{by-verdict}
 use Rattle.refusals.proofs.Settled.{by-settled, settled-left, first-here}
 use Rattle.trivium.specs.Keystream.{trivium}
+use Rattle.enocoro.specs.Keystream.{enocoro}
 use Rattle.pack.specs.Calls.{refusedOpening, lacksOf, surveying, openingPack}
+use Rattle.pack.specs.Ciphers.{cipherIn}
 use Rattle.pack.specs.Cuts.{Section, sections, cutAt, CutNumber, CutsLack, refusedSo, Cuts}
 use Rattle.pack.specs.Faults.{faultsFromSamples, faultsFromKey, fileFaults, roomFaults, openFaults}
 use Rattle.pack.specs.Places.{sampleCount}
 use Rattle.pack.specs.declared.Opened.{Opened}
 use Rattle.pack.proofs.Growing.{asked, Parting, cut, other, files-grown, parting, only-asked, cut-asked}
-use Rattle.pack.proofs.AcceptedFiles.{loop-right}
+use Rattle.pack.proofs.{AcceptedFiles.loop-right, Picking.Steady, Picking.cipher-steady}
 use Rattle.pack.proofs.Theorems.{file-numbered, file-right, survey-refusal}
 
 -- ---- 30 to 33 and the number of bytes go together, as they do in each rule
@@ -228,23 +230,66 @@ module _ (cipher : Cipher) (file : List ℕ) (n : ℕ) (right : AllRight (fileFa
         (λ _. cut-among n _ _ (omega arith)
         (λ behind. absurd (omega (arith, loop-right cipher file right))))))
 
--- ---- all of it
+-- ---- all of it, under any choice that bytes behind a file don't disturb
 
-pub cuts : (cipher : Cipher) → Cuts cipher
-cuts cipher =
+module _ (pick : List ℕ → Cipher) (steady : Steady pick) (file more : List ℕ) where
+  abbrev later : Cipher
+  later = pick (file ++ more)
+
+  same-verdict : verdict (fileFaults (pick file) file) ≡ verdict (fileFaults later file)
+  same-verdict = steady file more .0
+
+  same-lacks : surveying (pick file) file .lacks ≡ surveying later file .lacks
+  same-lacks =
+      survey-lacks (pick file) file ∙ ap (λ (v : Verdict). v .lacks) same-verdict ∙ sym (survey-lacks later file)
+
+  same-refusal : surveying (pick file) file .refusal ≡ surveying later file .refusal
+  same-refusal =
+      survey-refusal (pick file) file ∙ ap (λ (v : Verdict). v .number) same-verdict ∙ sym (survey-refusal later file)
+
+pub cuts : (pick : List ℕ → Cipher) → Steady pick → Cuts pick
+cuts pick steady =
     record {
-      lacks = told-together cipher;
-      ends = ends-so cipher;
-      fewer = λ file more few. fewer cipher file more few (parted cipher file more);
-      enough = λ file more some all. enough cipher file more some all (parted cipher file more);
+      lacks = λ file. told-together (pick file) file;
+      ends = λ file. ends-so (pick file) file;
+      fewer =
+          λ file more few.
+          let lacks = same-lacks pick steady file more in
+          fewer (pick (file ++ more)) file more (subst (λ (n : ℕ). length more < n) lacks few)
+          (parted (pick (file ++ more)) file more)
+          ∙ ap₂ (λ (l n : ℕ). refusedOpening (l - length more) n) (sym lacks)
+          (sym (same-refusal pick steady file more));
+      enough =
+          λ file more some all.
+          let lacks = same-lacks pick steady file more in
+          subst (λ (n : ℕ). n < reason (fileFaults (pick (file ++ more)) (file ++ more)))
+          (sym (steady file more .1))
+          (enough (pick (file ++ more)) file more (subst (λ (n : ℕ). 0 < n) lacks some)
+          (subst (λ (n : ℕ). n ≤ length more) lacks all) (parted (pick (file ++ more)) file more));
       cut =
           λ file n e inside.
-          let right = file-right cipher file (sym (survey-refusal cipher file) ∙ e) in
-          let among = cut-number cipher file n right inside in
-          (among, answered cipher (take n file) (sym (cut-verdict cipher file n right inside)) (omega (arith, among)));
-      opened = opened-refused cipher;
-      openedLacks = opened-alike cipher;
+          let right = file-right (pick file) file (sym (survey-refusal (pick file) file) ∙ e) in
+          let among = cut-number (pick file) file n right inside in
+          let under = same-verdict pick steady (take n file) (drop n file)
+          ∙ ap (λ (f : List ℕ). verdict (fileFaults (pick f) (take n file))) (take-append-drop n file) in (
+            among,
+            answered (pick (take n file)) (take n file) (sym (under ∙ cut-verdict (pick file) file n right inside))
+                (omega (arith, among)),
+          );
+      opened = λ ring file. opened-refused (pick file) ring file;
+      openedLacks = λ ring file. opened-alike (pick file) ring file;
     }
 
-pub cuts-trivium : Cuts trivium
-cuts-trivium = cuts trivium
+-- under one cipher for all files
+under : (cipher : Cipher) → Cuts (λ file. cipher)
+under cipher = cuts (λ file. cipher) (λ file more. (refl, refl))
+
+pub cuts-trivium : Cuts (λ file. trivium)
+cuts-trivium = under trivium
+
+pub cuts-enocoro : Cuts (λ file. enocoro)
+cuts-enocoro = under enocoro
+
+-- and for callers, under the one that a file is under
+pub cuts-picked : Cuts cipherIn
+cuts-picked = cuts cipherIn cipher-steady

@@ -1,25 +1,28 @@
 -- Demand 2 holds: what an accepted opening puts into a caller's hand are the parts that the file gives, and the laws
 -- of laid and of accepted files speak of these.
-use Prim.Native.Nat.{ℕ, _*_, _≤_}
+use Prim.Native.Nat.{ℕ, _*_, _<_, _≤_}
 use mathlib.Core.{List.List, List.[], List._∷_, Path._≡_, Path.refl, Path.sym, Path.ap, Path.subst, Path._∙_}
 use native.Mathlib.Omega.{arith}
-use lib.{IntN.ℤ, ListN.length, ListN.take}
+use lib.{IntN.ℤ, ListN.length, ListN.getD, ListN.take}
 use Rattle.octets.specs.{Buffers.placed, Stream.Cipher}
 use Rattle.octets.proofs.{Buffers.take-placed, Rows.many-read, Slices.length-slice, Streams.OfBytes}
 use Rattle.refusals.specs.{Numbers.accepted, Numbers.noRoom, Outcome.Outcome, Outcome.outcome}
 use Rattle.refusals.specs.Rules.{_over_, _says_, AllRight, first}
 use Rattle.refusals.proofs.Faults.{all-right, none-wrong, right-both}
 use Rattle.refusals.proofs.Settled.{settled-number}
-use Rattle.trivium.specs.Keystream.{trivium}
-use Rattle.pack.specs.{declared.Opened.Opened, declared.Sealed.Sealed}
-use Rattle.pack.specs.Calls.{acceptedOpening, openingPack, sealingPack}
-use Rattle.pack.specs.Demand2.{inHand, OpenedTo, sealedTo, Demand2}
+use Rattle.samples.specs.Words.{NoLowest}
+use Rattle.pack.specs.{declared.Kind.Kind, declared.Opened.Opened, declared.Sealed.Sealed}
+use Rattle.pack.specs.declared.Kind.the-variants.{Trivium, Enocoro}
+use Rattle.pack.specs.Calls.{acceptedOpening, surveying, openingPack, sealingPack, sealingFile}
+use Rattle.pack.specs.Ciphers.{cipherOf, Rings, ringFor}
+use Rattle.pack.specs.Demand2.{inHand, OpenedTo, sealedTo, plainIn, LaidUnder, Demand2}
 use Rattle.pack.specs.Faults.{faultsFromSamples, faultsFromKey, fileFaults, openFaults, sealFaults}
 use Rattle.pack.specs.Layout.{Parts, parts, Within, LaidFrom, layout}
 use Rattle.pack.specs.Places.{nameCount, sampleCount, loopCount, loopsPlace, plainOf, partsOf}
 use Rattle.pack.proofs.AcceptedFiles.{samples-counted, laid-from, parts-within}
 use Rattle.pack.proofs.Theorems.{within-sealed, opens, seals, sealed-opens, opened-seals, same-size, same-if}
-use Rattle.pack.proofs.Theorems.{only-if, opener-accepts-exactly, survey-refusal, trivium-bytes}
+use Rattle.pack.proofs.Theorems.{file-right, only-if, opener-accepts-exactly, survey-refusal, cipher-bytes}
+use Rattle.pack.proofs.Picking.{kind-found}
 
 module _ (cipher : Cipher) (ring : List (List ℕ)) where
   -- the numbers that callers see are the first broken rules'
@@ -93,50 +96,117 @@ same-file xs ys output hx hy e =
     sym (take-placed output xs hx) ∙ ap (λ (o : Outcome Sealed ℕ). take (o .answer .length) (o .buffer)) e
     ∙ take-placed output ys hy
 
-pub demand2 : (cipher : Cipher) (ring : List (List ℕ))
-    → ((key value : List ℕ) → OfBytes (cipher .stream key value)) → Demand2 cipher ring
-demand2 cipher ring bytes =
+-- ---- under one cipher and its ring
+
+module _ (kind : Kind) (r : Rings) where
+  abbrev cipher : Cipher
+  cipher = cipherOf kind
+
+  abbrev ring : List (List ℕ)
+  ring = ringFor kind r
+
+  abbrev opening : List ℕ → List ℤ → Outcome Opened ℤ
+  opening = openingPack cipher ring
+
+  abbrev bytes : (key value : List ℕ) → OfBytes (cipher .stream key value)
+  bytes = cipher-bytes kind
+
+  opened-under : (file : List ℕ) (sound : List ℤ) → ((i : ℕ) → getD file i 0 < 256)
+      → let p = inHand cipher file (opening file sound) in
+      opening file sound .answer .refusal ≡ accepted
+      → OpenedTo cipher p file sound (opening file sound) × LaidUnder kind r p (plainIn kind r file) file
+  opened-under file sound b e =
+      let right = opening-right cipher ring file sound e .0 in
+      let given = opened-given cipher ring file sound e in
+      subst
+      (λ (p : Parts). OpenedTo cipher p file sound (opening file sound) × LaidUnder kind r p (plainIn kind r file) file)
+      (sym (given .same))
+      (given, (parts-within cipher ring file right b, laid-from cipher ring file right b (bytes _ _)))
+
+  resealed-under : (file output : List ℕ) (sound : List ℤ) → ((i : ℕ) → getD file i 0 < 256)
+      → length file ≤ length output
+      → let same = sealingFile kind r (inHand cipher file (opening file sound)) output ≡ sealedTo file output in
+      opening file sound .answer .refusal ≡ accepted
+      → (NoLowest (plainIn kind r file) → same) × (same → NoLowest (plainIn kind r file))
+  resealed-under file output sound b room e =
+      let right = sym (all-right _ (opening-right cipher ring file sound e .0)) in
+      let p = partsOf cipher ring file in
+      let again : sealingFile kind r (inHand cipher file (opening file sound)) output
+      ≡ sealedTo (layout cipher ring p) output =
+      ap (λ (q : Parts). sealingFile kind r q output) (opened-given cipher ring file sound e .same)
+      ∙ opened-seals cipher ring bytes file b right output room in (
+        λ other. again ∙ ap (λ (f : List ℕ). sealedTo f output) (same-if cipher ring bytes file b right other),
+        λ same.
+            only-if cipher ring bytes file b right
+            (same-file (layout cipher ring p) file output (omega (arith, same-size cipher ring bytes file b right)) room
+            (sym again ∙ same)),
+      )
+
+  -- what is laid out is accepted, and as a file of this cipher
+  laid-right : (file : List ℕ) → ((i : ℕ) → getD file i 0 < 256)
+      → (p : Parts) × (plain : List ℕ) × LaidUnder kind r p plain file
+      → AllRight (fileFaults cipher file)
+  laid-right file b l =
+      file-right cipher file
+      (opener-accepts-exactly cipher ring bytes file b .1 (l .0, l .1, l .2 .0, l .2 .1))
+
+-- ---- for callers: a file of this cipher is read under it
+
+pub demand2 : (kind : Kind) (r : Rings) → Demand2 kind r
+demand2 kind r =
     record {
-      seals = λ p output w room. seals cipher ring p output (within-sealed cipher p _ _ w room);
+      seals =
+          λ p output w room.
+          seals (cipherOf kind) (ringFor kind r) p output (within-sealed (cipherOf kind) p _ _ w room);
       sealed =
           λ p output sound values room e.
-          let s = sealingPack cipher ring p output in
+          let s = sealingFile kind r p output in
           let file = take (s .answer .length) (s .buffer) in
-          let back = sealed-opens cipher ring p output sound (sym (sealing-refusal cipher ring p output) ∙ e) values
-          room in
-          let taken : openingPack cipher ring file sound .answer .refusal ≡ accepted =
+          let back = sealed-opens (cipherOf kind) (ringFor kind r) p output sound
+          (sym (sealing-refusal (cipherOf kind) (ringFor kind r) p output) ∙ e) values room in
+          let taken : opening kind r file sound .answer .refusal ≡ accepted =
           ap (λ (o : Outcome Opened ℤ). o .answer .refusal) (back .0) in
-          subst (λ (q : Parts). OpenedTo cipher q file sound (openingPack cipher ring file sound)) (back .1)
-          (opened-given cipher ring file sound taken);
+          let same = kind-found kind file (opening-right (cipherOf kind) (ringFor kind r) file sound taken .0) in
+          subst (λ (k : Kind). OpenedTo (cipherOf kind) p file sound (opening k r file sound)) (sym same)
+          (subst (λ (q : Parts). OpenedTo (cipherOf kind) q file sound (opening kind r file sound)) (back .1)
+          (opened-given (cipherOf kind) (ringFor kind r) file sound taken));
       opened =
-          λ file sound b e.
-          let right = opening-right cipher ring file sound e .0 in
-          let given = opened-given cipher ring file sound e in
+          λ file sound same b.
           subst
-          (λ (p : Parts). OpenedTo cipher p file sound (openingPack cipher ring file sound) × Within cipher p
-          × LaidFrom cipher ring p (plainOf cipher ring file) file) (sym (given .same))
-          (given, parts-within cipher ring file right b, laid-from cipher ring file right b (bytes _ _));
+          (λ (k : Kind). let o = opening k r file sound in
+          let p = inHand (cipherOf kind) file o in
+          o .answer .refusal ≡ accepted
+          → OpenedTo (cipherOf kind) p file sound o × LaidUnder kind r p (plainIn kind r file) file) (sym same)
+          (opened-under kind r file sound b);
       resealed =
-          λ file output sound b room e.
-          let right = sym (all-right _ (opening-right cipher ring file sound e .0)) in
-          let p = partsOf cipher ring file in
-          let again : sealingPack cipher ring (inHand cipher file (openingPack cipher ring file sound)) output
-          ≡ sealedTo (layout cipher ring p) output =
-          ap (λ (q : Parts). sealingPack cipher ring q output) (opened-given cipher ring file sound e .same)
-          ∙ opened-seals cipher ring bytes file b right output room in (
-            λ other.
-                again ∙ ap (λ (f : List ℕ). sealedTo f output) (same-if cipher ring bytes file b right other),
-            λ same.
-                only-if cipher ring bytes file b right
-                (same-file (layout cipher ring p) file output
-                (omega (arith, same-size cipher ring bytes file b right)) room (sym again ∙ same)),
-          );
+          λ file output sound same b room.
+          subst
+          (λ (k : Kind). let o = opening k r file sound in
+          let again = sealingFile kind r (inHand (cipherOf kind) file o) output ≡ sealedTo file output in
+          o .answer .refusal ≡ accepted
+          → (NoLowest (plainIn kind r file) → again) × (again → NoLowest (plainIn kind r file))) (sym same)
+          (resealed-under kind r file output sound b room);
       accepts =
-          λ file b.
-          let exactly = opener-accepts-exactly cipher ring bytes file b in
-          (λ l. survey-refusal cipher file ∙ exactly .1 l, λ e. exactly .0 (sym (survey-refusal cipher file) ∙ e));
+          λ file b. (
+            λ l.
+                let right = laid-right kind r file b l in
+                let same = kind-found kind file right in (
+                  subst (λ (k : Kind). surveying (cipherOf k) file .refusal ≡ accepted) (sym same)
+                      (survey-refusal (cipherOf kind) file ∙ sym (all-right _ right)),
+                  same,
+                ),
+            λ taken.
+                let e : surveying (cipherOf kind) file .refusal ≡ accepted =
+                subst (λ (k : Kind). surveying (cipherOf k) file .refusal ≡ accepted) (taken .1) (taken .0) in
+                let l = opener-accepts-exactly (cipherOf kind) (ringFor kind r) (cipher-bytes kind) file b .0
+                (sym (survey-refusal (cipherOf kind) file) ∙ e) in
+                (l .0, l .1, (l .2, l .3)),
+          );
     }
 
--- with the cipher of demand 1, the very one that the contracts of opener and sealer cite
-pub demand2-trivium : (ring : List (List ℕ)) → Demand2 trivium ring
-demand2-trivium ring = demand2 trivium ring trivium-bytes
+-- with the ciphers of demand 1, the very ones that the contracts of opener and sealer cite
+pub demand2-trivium : (r : Rings) → Demand2 Trivium r
+demand2-trivium = demand2 Trivium
+
+pub demand2-enocoro : (r : Rings) → Demand2 Enocoro r
+demand2-enocoro = demand2 Enocoro

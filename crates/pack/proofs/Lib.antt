@@ -6,5 +6,6 @@ pub mod LaidFiles
 pub mod LongFiles
 pub mod Loops
 pub mod Opposites
+pub mod Picking
 pub mod Samples
 pub mod Theorems

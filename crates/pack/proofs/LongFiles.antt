@@ -1,7 +1,7 @@
 -- Within the limits no rule looks further than one byte past the longest file: so no longer one is accepted, and what
 -- it is refused for stands in its front.
 use mathlib.Core.{Path._≡_, Path.refl, Path.sym, Path.ap, Path._∙_, Logic._≢_}
-use mathlib.Core.{Bool.Bool, Bool.true, Bool.false, List.List, List.[], List._∷_}
+use mathlib.Core.{Bool.Bool, Bool.true, Bool.false, List.List, List.[], List._∷_, List._++_}
 use Prim.Native.Nat.{ℕ, zero, suc, _+_, _*_, _<_, _≤_}
 use native.Mathlib.Omega.{arith}
 use borrow.Author.Tests.{le-leb, leb-true, leb-false}
@@ -12,29 +12,32 @@ use Rattle.refusals.specs.declared.Verdict.{Verdict}
 use Rattle.refusals.proofs.Settled.{settled-left, first-here}
 use Rattle.samples.proofs.Words.{Good}
 use Rattle.trivium.specs.Keystream.{trivium}
-use Rattle.pack.specs.{Calls.refusedOpening, Calls.lacksOf, Calls.surveying, Calls.openingPack}
+use Rattle.pack.specs.Calls.{refusedOpening, lacksOf, surveying, openingPack, surveyingFile, openingFile}
+use Rattle.pack.specs.Ciphers.{cipherOf, kindIn, cipherIn, Rings}
+use Rattle.pack.specs.declared.Kind.{Kind}
 use Rattle.pack.specs.Faults.{faultsFromSamples, faultsFromKey, fileFaults, openFaults}
 use Rattle.pack.specs.Layout.{Parts, parts, Within, nameGood, loopsGood, layout}
 use Rattle.pack.specs.Limits.{mostName, mostSamples, longestFile}
 use Rattle.pack.proofs.{AcceptedFiles.key-right, AcceptedFiles.sample-right, AcceptedFiles.loop-right}
 use Rattle.pack.proofs.Growing.{files-grown, parting, alike-beyond}
-use Rattle.pack.proofs.{LaidFiles.length-layout, Samples.all-good, Theorems.file-numbered}
-use Rattle.pack.proofs.Theorems.{file-right, survey-refusal}
+use Rattle.pack.proofs.{LaidFiles.length-layout, Picking.short-value, Picking.cipher-steady, Samples.all-good}
+use Rattle.pack.proofs.Theorems.{file-numbered, file-right, survey-refusal}
 
 -- ---- how long a file can be
 
 -- each count is within its limit, and nothing stands behind the loops
-right-at-most : (file : List ℕ) → AllRight (fileFaults trivium file) → length file ≤ longestFile
+right-at-most : (kind : Kind) (file : List ℕ) → AllRight (fileFaults (cipherOf kind) file)
+    → length file ≤ longestFile
 unfolding fileFaults faultsFromKey faultsFromSamples
-right-at-most file right =
-    let key = key-right trivium file right in
-    let sample = sample-right trivium file right in
-    let loop = loop-right trivium file right in
-    omega arith
+right-at-most kind file right =
+    let key = key-right (cipherOf kind) file right in
+    let sample = sample-right (cipherOf kind) file right in
+    let loop = loop-right (cipherOf kind) file right in
+    omega (arith, short-value kind)
 
-pub layout-at-most : (ring : List (List ℕ)) (p : Parts) → Within trivium p
-    → length (layout trivium ring p) ≤ longestFile
-layout-at-most ring p w = omega (arith, length-layout trivium ring p)
+pub layout-at-most : (kind : Kind) (ring : List (List ℕ)) (p : Parts) → Within (cipherOf kind) p
+    → length (layout (cipherOf kind) ring p) ≤ longestFile
+layout-at-most kind ring p w = omega (arith, length-layout (cipherOf kind) ring p, short-value kind)
 
 -- every element of a run of equal ones has what one has
 equal-elements : {A : Type 0} (P : A → Type 0) (n i : ℕ) (a d : A) → P a → P d → P (getD (replicate n a) i d)
@@ -75,30 +78,40 @@ longest-reached ring = (
   long-length ring mostSamples,
 )
 
-pub longer-refused : (file : List ℕ) → longestFile < length file → surveying trivium file .refusal ≢ accepted
+pub longer-refused : (file : List ℕ) → longestFile < length file → surveyingFile file .refusal ≢ accepted
 longer-refused file long e =
-    absurd (omega (arith, right-at-most file (file-right trivium file (sym (survey-refusal trivium file) ∙ e))))
+    absurd
+    (omega (
+      arith,
+      right-at-most (kindIn file) file
+          (file-right (cipherIn file) file (sym (survey-refusal (cipherIn file) file) ∙ e)),
+    ))
 
 -- ---- what a longer one is refused for
 
+abbrev said : List ℕ → Verdict
+said file = verdict (fileFaults (cipherIn file) file)
+
 -- a front that is longer than the longest file comes to what the whole does
-front-refused : (file : List ℕ) (n : ℕ) → longestFile < n → n ≤ length file
-    → verdict (fileFaults trivium (take n file)) ≡ verdict (fileFaults trivium file)
+front-refused : (file : List ℕ) (n : ℕ) → longestFile < n → n ≤ length file → said (take n file) ≡ said file
 front-refused file n far long =
     let front : List ℕ = take n file in
     let rest : List ℕ = drop n file in
+    let whole : List ℕ = front ++ rest in
     let size : length front ≡ n = length-take-le n file long in
-    alike-beyond _ _
-    (parting (omega (arith, length-append front rest)) (files-grown front rest trivium longestFile (omega arith)))
+    cipher-steady front rest .0
+    ∙ alike-beyond _ _
+    (parting (omega (arith, length-append front rest))
+    (files-grown front rest (cipherIn whole) longestFile (omega (arith, short-value (kindIn whole)))))
     (omega arith)
-    ∙ ap (λ (l : List ℕ). verdict (fileFaults trivium l)) (take-append-drop n file)
+    ∙ ap said (take-append-drop n file)
 
 -- ---- what a caller sees
 
 -- A call that a broken rule of the file ends at once comes to the same on the front and on the whole.
 by-front : {A : Type 0} (call : List ℕ → A) (left : ℕ → ℕ → A)
-    → ((file : List ℕ) (k : ℕ) → k ≢ accepted → k ≡ first (fileFaults trivium file)
-    → left (lacksOf trivium file) k ≡ call file)
+    → ((file : List ℕ) (k : ℕ) → k ≢ accepted → k ≡ first (fileFaults (cipherIn file) file)
+    → left (lacksOf (cipherIn file) file) k ≡ call file)
     → (file : List ℕ) (n : ℕ) → longestFile < n
     → call (take n file) ≡ call file
 by-front call left ends file n far = go (leb n (length file)) refl
@@ -106,23 +119,24 @@ by-front call left ends file n far = go (leb n (length file)) refl
     go : (b : Bool) → leb n (length file) ≡ b → call (take n file) ≡ call file
     go true e =
         let long : n ≤ length file = leb-true n (length file) e in
-        let k : ℕ = first (fileFaults trivium file) in
-        let refused : k ≢ accepted = λ z. longer-refused file (omega arith) (survey-refusal trivium file ∙ z) in
+        let k : ℕ = first (fileFaults (cipherIn file) file) in
+        let refused : k ≢ accepted = λ z. longer-refused file (omega arith) (survey-refusal (cipherIn file) file ∙ z) in
         let same = front-refused file n far long in
         sym (ends (take n file) k refused (sym (ap (λ (v : Verdict). v .number) same)))
         ∙ ap (λ (v : Verdict). left (v .lacks) k) same
         ∙ ends file k refused refl
     go false e = ap call (take-all n file (omega (arith, leb-false n (length file) e)))
 
-pub front-decides : (file : List ℕ) (n : ℕ) → longestFile < n → surveying trivium (take n file) ≡ surveying trivium file
+pub front-decides : (file : List ℕ) (n : ℕ) → longestFile < n → surveyingFile (take n file) ≡ surveyingFile file
 unfolding surveying
-front-decides = by-front (surveying trivium) refusedOpening (λ file k no e. settled-left _ _ _ k no e)
+front-decides = by-front surveyingFile refusedOpening (λ file k no e. settled-left _ _ _ k no e)
 
 -- so a program that reads one byte more than the longest file opens as if it had read all
-pub front-opens : (ring : List (List ℕ)) (sound : List ℤ) (file : List ℕ) (n : ℕ) → longestFile < n
-    → openingPack trivium ring (take n file) sound ≡ openingPack trivium ring file sound
+pub front-opens : (r : Rings) (sound : List ℤ) (file : List ℕ) (n : ℕ) → longestFile < n
+    → openingFile r (take n file) sound ≡ openingFile r file sound
 unfolding openingPack openFaults
-front-opens ring sound =
-    by-front (λ (file : List ℕ). openingPack trivium ring file sound) (λ l k. outcome (refusedOpening l k) sound)
+front-opens r sound =
+    by-front (λ (file : List ℕ). openingFile r file sound) (λ l k. outcome (refusedOpening l k) sound)
     (λ file k no e.
-    settled-left _ _ _ k no (first-here (fileFaults trivium file) _ (file-numbered trivium file) k no e))
+    settled-left _ _ _ k no
+    (first-here (fileFaults (cipherIn file) file) _ (file-numbered (cipherIn file) file) k no e))

@@ -8,7 +8,9 @@ use Rattle.octets.specs.{Buffers.placed, Stream.Cipher}
 use Rattle.refusals.specs.Numbers.{accepted}
 use Rattle.samples.proofs.Words.{Good, words-good}
 use Rattle.trivium.specs.Keystream.{trivium}
-use Rattle.pack.specs.{Calls.openingPack, Opposites.Opposites, Places.partsOf}
+use Rattle.enocoro.specs.Keystream.{enocoro}
+use Rattle.pack.specs.{Calls.openingPack, Ciphers.cipherIn, Ciphers.Rings, Ciphers.ringIn, Opposites.Opposites}
+use Rattle.pack.specs.Places.{partsOf}
 use Rattle.pack.proofs.Demand2.{opened-given}
 
 -- what a run at the front of a buffer leaves there
@@ -40,12 +42,25 @@ module _ (cipher : Cipher) (ring : List (List ℕ)) where
       let there = front-at sound (partsOf cipher ring file .samples) i (omega (arith, given .sampleCount)) in
       subst Good (sym (ap (λ (l : List ℤ). getD l i (pos 0)) (given .written) ∙ there)) (given-good file i)
 
-  pub opposites : Opposites cipher ring
-  opposites =
-      record {
-        raised = λ file sound i e h. good-raised (written file sound i) (written-good file sound i e h);
-        opposite = λ file sound i e h. good-opposite (written file sound i) (written-good file sound i e h);
-      }
+pub opposites : (pick : List ℕ → Cipher) (ring : List ℕ → List (List ℕ)) → Opposites pick ring
+opposites pick ring =
+    record {
+      raised =
+          λ file sound i e h.
+          good-raised (written (pick file) (ring file) file sound i)
+          (written-good (pick file) (ring file) file sound i e h);
+      opposite =
+          λ file sound i e h.
+          good-opposite (written (pick file) (ring file) file sound i)
+          (written-good (pick file) (ring file) file sound i e h);
+    }
 
-pub opposites-trivium : (ring : List (List ℕ)) → Opposites trivium ring
-opposites-trivium = opposites trivium
+pub opposites-trivium : (ring : List (List ℕ)) → Opposites (λ file. trivium) (λ file. ring)
+opposites-trivium ring = opposites (λ file. trivium) (λ file. ring)
+
+pub opposites-enocoro : (ring : List (List ℕ)) → Opposites (λ file. enocoro) (λ file. ring)
+opposites-enocoro ring = opposites (λ file. enocoro) (λ file. ring)
+
+-- for callers, under the cipher that a file is under
+pub opposites-picked : (r : Rings) → Opposites cipherIn (ringIn r)
+opposites-picked r = opposites cipherIn (ringIn r)

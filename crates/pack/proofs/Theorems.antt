@@ -1,6 +1,6 @@
 -- The laws that Demand2.antt puts together: sealed parts open to themselves, an opened file seals to itself exactly if
 -- no plain word is 80 00, and the opener accepts exactly what is laid out from parts within their limits, each from the
--- laws of accepted and of laid files. Then what refusals leave, and what a ring holds and makes.
+-- laws of accepted and of laid files. Then what refusals leave.
 use Prim.Native.Nat.{ℕ, _*_, _<_, _≤_}
 use mathlib.Core.List.{List, [], _∷_, _++_, append-assoc}
 use mathlib.Core.Path.{_≡_, refl, sym, ap, ap₂, subst, _∙_}
@@ -15,17 +15,17 @@ use Rattle.refusals.proofs.Faults.{numbered, all-right, none-wrong, right-after
 use Rattle.refusals.proofs.Settled.{done-if, settled-number, settled-leaves}
 use Rattle.samples.specs.Words.{wordsOf, NoLowest, bytesOfAll}
 use Rattle.samples.proofs.Words.{length-bytes, bytes-of-words, bytes-kept}
-use Rattle.trivium.specs.{Calls.refusedMaking, Record.state, Record.packed, declared.Made.Made}
-use Rattle.trivium.specs.{declared.Registers.Registers}
-use Rattle.trivium.specs.{Keystream.keystream, Keystream.trivium, Registers.started}
-use Rattle.trivium.proofs.{Bytes.keystream-bytes, Steps.state-started}
-use Rattle.pack.specs.{Demand2.sealedTo, Limits.lastKey, declared.Opened.Opened, declared.Sealed.Sealed}
+use Rattle.trivium.specs.Registers.{started}
+use Rattle.trivium.proofs.Bytes as Trivium-bytes
+use Rattle.enocoro.proofs.States as Enocoro-bytes
+use Rattle.pack.specs.{Ciphers.cipherOf, Demand2.sealedTo, declared.Kind.Kind, declared.Opened.Opened}
+use Rattle.pack.specs.{declared.Kind.the-variants.Trivium, declared.Kind.the-variants.Enocoro}
+use Rattle.pack.specs.declared.Sealed.{Sealed}
 use Rattle.pack.specs.Calls.{refusedOpening, acceptedOpening, lacksOf, surveying, openingPack, sealingPack}
 use Rattle.pack.specs.Faults.{faultsFromSamples, faultsFromKey, fileFaults, openFaults, sealFaults}
 use Rattle.pack.specs.Layout.{Parts, Within, fours, keyNamed, nameSection, keySection, loopSection, laid}
 use Rattle.pack.specs.Layout.{LaidFrom, layout}
 use Rattle.pack.specs.Places.{sampleCount, plainOf, partsOf}
-use Rattle.pack.specs.Ring.{keying}
 use Rattle.pack.proofs.LaidFiles.{length-laid, length-layout, laid-accepted, layout-laid}
 use Rattle.pack.proofs.{Loops.loops-even, AcceptedFiles.samples-counted, AcceptedFiles.laid-from}
 use Rattle.pack.proofs.AcceptedFiles.{parts-within}
@@ -203,9 +203,10 @@ module _ (cipher : Cipher) (ring : List (List ℕ))
     λ l. sym (all-right _ (laid-accepted cipher ring (l .0) (l .1) file (l .2) (l .3) .0)),
   )
 
--- Trivium's elements are
-pub trivium-bytes : (key value : List ℕ) → OfBytes (trivium .stream key value)
-trivium-bytes key value = keystream-bytes (started key value)
+-- those of both ciphers are
+pub cipher-bytes : (kind : Kind) (key value : List ℕ) → OfBytes (cipherOf kind .stream key value)
+cipher-bytes Trivium key value = Trivium-bytes.keystream-bytes (started key value)
+cipher-bytes Enocoro key value = Enocoro-bytes.keystream-bytes key value
 
 -- ---- a refused call leaves everything as given
 
@@ -230,25 +231,3 @@ pub sealing-leaves : (cipher : Cipher) (ring : List (List ℕ)) (p : Parts) (out
     (sealingPack cipher ring p output)
 unfolding sealingPack
 sealing-leaves cipher ring p output = settled-leaves _ _ _ (λ o. o .answer .refusal) refl (λ n. refl)
-
-pub keying-leaves : (ring : List (List ℕ)) (number : ℕ) (value : List ℕ)
-    → Leaves (λ m. m .refusal) refusedMaking (keying ring number value)
-unfolding keying
-keying-leaves ring number value = settled-leaves _ _ _ (λ m. m .refusal) refl (λ n. refl)
-
--- ---- the ring
-
--- with a number of the ring and a value of ten bytes, the cipher is the row's
-pub ring-makes : (ring : List (List ℕ)) (number : ℕ) (value : List ℕ) → number ≤ lastKey
-    → length value ≡ trivium .valueBytes
-    → keying ring number value .registers ≡ packed (started (keyNamed ring number) value)
-unfolding keying
-ring-makes ring number value small ten = ap (λ (m : Made). m .registers) (sym (done-if _ _ _ (small, (ten, tt))))
-
--- and gives that key's keystream
-pub ring-streams : (ring : List (List ℕ)) (number : ℕ) (value : List ℕ) → number ≤ lastKey
-    → length value ≡ trivium .valueBytes
-    → keystream (state (keying ring number value .registers)) ≡ trivium .stream (keyNamed ring number) value
-ring-streams ring number value small ten =
-    ap (λ (r : Registers). keystream (state r)) (ring-makes ring number value small ten)
-    ∙ ap keystream (state-started (keyNamed ring number) value)

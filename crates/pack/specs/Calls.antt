@@ -1,10 +1,13 @@
--- What each public call owes: its answer, and what the lent output holds afterwards, for every input.
+-- What each public call owes: its answer, and what the lent output holds afterwards, for every input. First under one
+-- cipher, whatever it is, and then under the one that a file is under, or that sealing is told.
 use Prim.Native.Nat.{ℕ}
 use mathlib.Core.List.{List}
 use lib.{IntN.ℤ, ListN.length}
 use Rattle.octets.specs.{Buffers.placed, Stream.Cipher}
 use Rattle.refusals.specs.{Numbers.accepted, Outcome.Outcome, Outcome.outcome, Rules.lacking, Rules.settled}
-use Rattle.pack.specs.{Layout.Parts, Layout.layout, declared.Opened.Opened, declared.Sealed.Sealed}
+use Rattle.pack.specs.Ciphers.{cipherOf, cipherIn, Rings, ringFor, ringIn}
+use Rattle.pack.specs.{Layout.Parts, Layout.layout, declared.Kind.Kind, declared.Opened.Opened}
+use Rattle.pack.specs.declared.Sealed.{Sealed}
 use Rattle.pack.specs.Faults.{fileFaults, openFaults, sealFaults}
 use Rattle.pack.specs.Places.{nameCount, keyNumber, valuePlace, sampleCount, loopCount, loopsPlace, partsOf}
 
@@ -59,3 +62,15 @@ sealingPack cipher ring p output =
     settled (sealFaults cipher p (length file) (length output))
     (outcome (record { refusal = accepted; length = length file }) (placed output 0 file))
     (λ number. outcome (record { refusal = number; length = 0 }) output)
+
+-- ---- for callers, who hold both rings
+
+-- what a file says of itself, by the cipher that its key count picks
+abbrev pub surveyingFile : List ℕ → Opened
+surveyingFile file = surveying (cipherIn file) file
+
+abbrev pub openingFile : Rings → List ℕ → List ℤ → Outcome Opened ℤ
+openingFile r file output = openingPack (cipherIn file) (ringIn r file) file output
+
+abbrev pub sealingFile : Kind → Rings → Parts → List ℕ → Outcome Sealed ℕ
+sealingFile kind r p output = sealingPack (cipherOf kind) (ringFor kind r) p output

@@ -48,30 +48,31 @@ CutsLack number lacks = (CutNumber number → 0 < lacks) × (0 < lacks → CutNu
 abbrev pub refusedSo : Verdict → Opened
 refusedSo v = refusedOpening (v .lacks) (v .number)
 
-pub record Cuts (cipher : Cipher) : Type 0 where
+-- `pick` is the cipher that each file is read under
+pub record Cuts (pick : List ℕ → Cipher) : Type 0 where
   -- 1. a file lacks some bytes if it is refused with 30 to 33, and none otherwise; with 30 to 33 both numbers are those
   -- of the section in which it ends
-  pub lacks : (file : List ℕ) → CutsLack (surveying cipher file .refusal) (surveying cipher file .lacks)
-  pub ends : (file : List ℕ) → CutNumber (surveying cipher file .refusal)
-      → surveying cipher file ≡ refusedSo (cutAt (length file) (sections cipher file))
+  pub lacks : (file : List ℕ) → CutsLack (surveying (pick file) file .refusal) (surveying (pick file) file .lacks)
+  pub ends : (file : List ℕ) → CutNumber (surveying (pick file) file .refusal)
+      → surveying (pick file) file ≡ refusedSo (cutAt (length file) (sections (pick file) file))
   -- 2. with fewer bytes behind it than it lacks, whatever they are, it is refused with the same number and lacks that
   -- many fewer
-  pub fewer : (file more : List ℕ) → let o = surveying cipher file in
+  pub fewer : (file more : List ℕ) → let o = surveying (pick file) file in
       length more < o .lacks
-      → surveying cipher (file ++ more) ≡ refusedOpening (o .lacks - length more) (o .refusal)
+      → surveying (pick (file ++ more)) (file ++ more) ≡ refusedOpening (o .lacks - length more) (o .refusal)
   -- 3. with as many as it lacks, or more, it is not refused for that reason: what refuses it then, if anything, is a
   -- later rule
-  pub enough : (file more : List ℕ) → let o = surveying cipher file in
+  pub enough : (file more : List ℕ) → let o = surveying (pick file) file in
       0 < o .lacks
       → o .lacks ≤ length more
-      → reason (fileFaults cipher file) < reason (fileFaults cipher (file ++ more))
+      → reason (fileFaults (pick file) file) < reason (fileFaults (pick (file ++ more)) (file ++ more))
   -- 4. an accepted file, cut anywhere, is refused by the section in which the cut lies
-  pub cut : (file : List ℕ) (n : ℕ) → surveying cipher file .refusal ≡ accepted → n < length file
-      → let v = cutAt n (sections cipher file) in
-      CutNumber (v .number) × (surveying cipher (take n file) ≡ refusedSo v)
+  pub cut : (file : List ℕ) (n : ℕ) → surveying (pick file) file .refusal ≡ accepted → n < length file
+      → let v = cutAt n (sections (pick file) file) in
+      CutNumber (v .number) × (surveying (pick (take n file)) (take n file) ≡ refusedSo v)
   -- 5. opening, whatever the ring and the room, answers a refused file as here, and writes nothing; it tells the same
   -- number of bytes of any file
-  pub opened : (ring : List (List ℕ)) (file : List ℕ) (sound : List ℤ) → surveying cipher file .refusal ≢ accepted
-      → openingPack cipher ring file sound ≡ outcome (surveying cipher file) sound
+  pub opened : (ring : List (List ℕ)) (file : List ℕ) (sound : List ℤ) → surveying (pick file) file .refusal ≢ accepted
+      → openingPack (pick file) ring file sound ≡ outcome (surveying (pick file) file) sound
   pub openedLacks : (ring : List (List ℕ)) (file : List ℕ) (sound : List ℤ)
-      → openingPack cipher ring file sound .answer .lacks ≡ surveying cipher file .lacks
+      → openingPack (pick file) ring file sound .answer .lacks ≡ surveying (pick file) file .lacks

@@ -1,11 +1,13 @@
--- Demand 2 in full, whatever the cipher, on what callers see: the outcomes of sealing and of opening.
+-- Demand 2 in full, under each cipher, on what callers see: the outcomes of sealing, which is told the cipher, and of
+-- opening, which finds it in the file.
 use Prim.Native.Nat.{ℕ, _*_, _<_, _≤_}
 use mathlib.Core.{List.List, Path._≡_}
 use lib.{IntN.ℤ, ListN.length, ListN.getD, ListN.take}
 use Rattle.octets.specs.{Buffers.slice, Buffers.placed, Rows.numbersAt, Stream.Cipher}
 use Rattle.refusals.specs.{Numbers.accepted, Outcome.Outcome, Outcome.outcome}
-use Rattle.pack.specs.{Calls.surveying, Calls.openingPack, Calls.sealingPack, declared.Opened.Opened}
-use Rattle.pack.specs.declared.Sealed.{Sealed}
+use Rattle.pack.specs.Calls.{surveyingFile, openingFile, sealingFile}
+use Rattle.pack.specs.Ciphers.{cipherOf, kindIn, Rings, ringFor}
+use Rattle.pack.specs.{declared.Kind.Kind, declared.Opened.Opened, declared.Sealed.Sealed}
 use Rattle.pack.specs.Layout.{Parts, parts, Within, fours, LaidFrom, layout}
 use Rattle.pack.specs.Places.{plainOf}
 use Rattle.samples.specs.Words.{NoLowest}
@@ -33,35 +35,45 @@ pub record OpenedTo (cipher : Cipher) (p : Parts) (file : List ℕ) (sound : Lis
 abbrev pub sealedTo : List ℕ → List ℕ → Outcome Sealed ℕ
 sealedTo file output = outcome (record { refusal = accepted; length = length file }) (placed output 0 file)
 
-pub record Demand2 (cipher : Cipher) (ring : List (List ℕ)) : Type 0 where
+-- a file as it is sealed under a cipher, and the plain bytes of one that is read under it
+abbrev pub fileOf : Kind → Rings → Parts → List ℕ
+fileOf kind r p = layout (cipherOf kind) (ringFor kind r) p
+
+abbrev pub plainIn : Kind → Rings → List ℕ → List ℕ
+plainIn kind r file = plainOf (cipherOf kind) (ringFor kind r) file
+
+-- a file is laid out under a cipher from parts within their limits and from plain bytes
+abbrev pub LaidUnder : Kind → Rings → Parts → List ℕ → List ℕ → Type 0
+LaidUnder kind r p plain file = Within (cipherOf kind) p × LaidFrom (cipherOf kind) (ringFor kind r) p plain file
+
+pub record Demand2 (kind : Kind) (r : Rings) : Type 0 where
   -- 1. parts within their limits are sealed to their layout, given room for it
-  pub seals : (p : Parts) (output : List ℕ) → Within cipher p → length (layout cipher ring p) ≤ length output
-      → sealingPack cipher ring p output ≡ sealedTo (layout cipher ring p) output
+  pub seals : (p : Parts) (output : List ℕ) → Within (cipherOf kind) p → length (fileOf kind r p) ≤ length output
+      → sealingFile kind r p output ≡ sealedTo (fileOf kind r p) output
   -- 2. whatever is sealed opens to the same, given room for the samples
   pub sealed : (p : Parts) (output : List ℕ) (sound : List ℤ) → ((i : ℕ) → getD (p .value) i 0 < 256)
       → length (p .samples) ≤ length sound
-      → let s = sealingPack cipher ring p output in
+      → let s = sealingFile kind r p output in
       let file = take (s .answer .length) (s .buffer) in
-      s .answer .refusal ≡ accepted → OpenedTo cipher p file sound (openingPack cipher ring file sound)
-  -- 3. an accepted file opens to what layout and keystream define: it is laid out from plain bytes, and what is in hand
-  -- are parts within their limits, with the samples read from these
-  pub opened : (file : List ℕ) (sound : List ℤ) → ((i : ℕ) → getD file i 0 < 256)
-      → let o = openingPack cipher ring file sound in
-      let p = inHand cipher file o in
+      s .answer .refusal ≡ accepted → OpenedTo (cipherOf kind) p file sound (openingFile r file sound)
+  -- 3. an accepted file of this cipher opens to what layout and keystream define: it is laid out from plain bytes, and
+  -- what is in hand are parts within their limits, with the samples read from these
+  pub opened : (file : List ℕ) (sound : List ℤ) → kindIn file ≡ kind → ((i : ℕ) → getD file i 0 < 256)
+      → let o = openingFile r file sound in
+      let p = inHand (cipherOf kind) file o in
       o .answer .refusal ≡ accepted
-      → OpenedTo cipher p file sound o
-      × Within cipher p
-      × LaidFrom cipher ring p (plainOf cipher ring file) file
+      → OpenedTo (cipherOf kind) p file sound o × LaidUnder kind r p (plainIn kind r file) file
   -- 4. and, sealed again with its own name, key number, initial value and loops, it is the same file exactly if no
   -- plain word was 80 00
-  pub resealed : (file output : List ℕ) (sound : List ℤ) → ((i : ℕ) → getD file i 0 < 256)
+  pub resealed : (file output : List ℕ) (sound : List ℤ) → kindIn file ≡ kind → ((i : ℕ) → getD file i 0 < 256)
       → length file ≤ length output
-      → let o = openingPack cipher ring file sound in
-      let same = sealingPack cipher ring (inHand cipher file o) output ≡ sealedTo file output in
+      → let o = openingFile r file sound in
+      let same = sealingFile kind r (inHand (cipherOf kind) file o) output ≡ sealedTo file output in
       o .answer .refusal ≡ accepted
-      → (NoLowest (plainOf cipher ring file) → same) × (same → NoLowest (plainOf cipher ring file))
-  -- 5. a file is accepted exactly if it is laid out from parts within their limits, whatever the plain words
+      → (NoLowest (plainIn kind r file) → same) × (same → NoLowest (plainIn kind r file))
+  -- 5. a file is accepted as one of this cipher exactly if it is laid out under it from parts within their limits,
+  -- whatever the plain words
   pub accepts : (file : List ℕ) → ((i : ℕ) → getD file i 0 < 256)
-      → let laidOut = (p : Parts) × (plain : List ℕ) × Within cipher p × LaidFrom cipher ring p plain file in
-      let taken = surveying cipher file .refusal ≡ accepted in
+      → let laidOut = (p : Parts) × (plain : List ℕ) × LaidUnder kind r p plain file in
+      let taken = (surveyingFile file .refusal ≡ accepted) × (kindIn file ≡ kind) in
       (laidOut → taken) × (taken → laidOut)

@@ -73,12 +73,14 @@ roomFaults needed room = (needed over room says noRoom) ∷ []
 unfoldable pub openFaults : Cipher → List ℕ → ℕ → List Fault
 openFaults cipher file room = fileFaults cipher file ++ roomFaults (sampleCount cipher file) room
 
--- Sealing: what the parts can have wrong in themselves. Of loops that are a run of odd length, the last has no end.
-abbrev pub partFaults : Cipher → Parts → List Fault
-partFaults cipher p =
-    (length (p .name) over mostName says longName)
-    ∷ (unless (nameGood (p .name)) says badName)
-    ∷ (length (p .value) unlike cipher .valueBytes says badValue)
+-- Sealing: what the parts can have wrong in themselves, first the name.
+abbrev pub partNameFaults : List ℕ → List Fault
+partNameFaults name = (length name over mostName says longName) ∷ (unless (nameGood name) says badName) ∷ []
+
+-- Of loops that are a run of odd length, the last has no end.
+abbrev pub otherFaults : Cipher → Parts → List Fault
+otherFaults cipher p =
+    (length (p .value) unlike cipher .valueBytes says badValue)
     ∷ (p .keyNumber over lastKey says badKeyNumber)
     ∷ (length (p .samples) over mostSamples says manySamples)
     ∷ (unless (samplesGood (p .samples)) says lowestSample)
@@ -89,4 +91,4 @@ partFaults cipher p =
 
 -- `size` is the file's length
 unfoldable pub sealFaults : Cipher → Parts → ℕ → ℕ → List Fault
-sealFaults cipher p size room = partFaults cipher p ++ roomFaults size room
+sealFaults cipher p size room = partNameFaults (p .name) ++ (otherFaults cipher p ++ roomFaults size room)

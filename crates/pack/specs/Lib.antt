@@ -1,4 +1,5 @@
 pub mod Calls
+pub mod Ciphers
 pub mod Cuts
 pub mod Demand2
 pub mod Faults
@@ -6,4 +7,3 @@ pub mod Layout
 pub mod Limits
 pub mod Opposites
 pub mod Places
-pub mod Ring

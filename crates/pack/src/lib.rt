@@ -1,12 +1,12 @@
 ghost use mathlib.Core.Path.{_≡_};
-ghost use Prim.Native.Nat.{_+_, _≤_};
-ghost use lib.ListN.{length};
-ghost use Rattle.octets.specs.Buffers.{slice};
+ghost use Rattle.pack.specs.Ciphers.{cipherOf, countOf, picked};
 ghost use Rattle.pack.specs.Layout.{nameGood};
-ghost use Rattle.pack.specs.Ring.{ringOf, keying};
-ghost use Rattle.trivium.specs.Calls.{makingCipher};
-use trivium::Made;
-use trivium::Registers;
+
+// The ciphers that a pack may be under.
+pub enum Kind {
+    Trivium,
+    Enocoro,
+}
 
 // What opening answers: `lacks` is how many bytes are missing of the section in which a file breaks off. A refused
 // answer has 0 for every other number.
@@ -37,11 +37,41 @@ pub const MOST_SAMPLES: usize = 16384;
 
 pub const MOST_LOOPS: usize = 8;
 
-// What the key section counts: its key number and an initial value.
-pub const KEY_COUNT: u8 = 11;
+// What the key section counts, its key number and an initial value: so it tells the cipher.
+pub const TRIVIUM_COUNT: u8 = 11;
 
-// The four keys of a ring.
-pub const RING_BYTES: usize = 40;
+pub const ENOCORO_COUNT: u8 = 9;
+
+// The cipher that a key count picks.
+pub fn kind_of(count: u8) -> Kind
+    ensures { λ r. ⌜ r ≡ picked count ⌝ }
+{
+    if count == ENOCORO_COUNT {
+        return Kind::Enocoro;
+    }
+    Kind::Trivium
+}
+
+// The count of the cipher that a key count picks. Any count but these two is not its own, and so is refused.
+pub fn own_count(count: u8) -> u8
+    ensures { λ r. ⌜ r ≡ countOf (picked count) ⌝ }
+{
+    if count == ENOCORO_COUNT {
+        ENOCORO_COUNT
+    } else {
+        TRIVIUM_COUNT
+    }
+}
+
+// How many bytes an initial value of a cipher has.
+pub fn value_bytes(kind: Kind) -> usize
+    ensures { λ r. ⌜ r ≡ cipherOf kind .valueBytes ⌝ }
+{
+    match kind {
+        Kind::Trivium => trivium::VALUE_BYTES,
+        Kind::Enocoro => enocoro::VALUE_BYTES,
+    }
+}
 
 // Whether each byte of a name is one that a name may have.
 pub fn name_good(name: &[u8]) -> bool
@@ -59,55 +89,4 @@ pub fn name_good(name: &[u8]) -> bool
         i += 1;
     }
     true
-}
-
-// One key of a ring that is lent as bytes.
-fn key_at(bytes: &[u8], at: usize) -> [u8; 10]
-    requires { ⌜ at + 10 ≤ length (now bytes) ⌝ }
-    ensures { λ r. ⌜ r ≡ slice (now (bytes .entry)) at 10 ⌝ }
-{
-    let mut key = [0; 10];
-    octet_writer::copy(&mut key, 0, octets::slice(bytes, at, 10));
-    key
-}
-
-// A ring of four keys from so many bytes and no fewer, where they stand one after the other.
-pub fn ring_of(bytes: &[u8; 40]) -> [[u8; 10]; 4]
-    ensures { λ r. ⌜ r ≡ ringOf (now (bytes .entry)) ⌝ }
-{
-    [
-        key_at(bytes, 0),
-        key_at(bytes, 10),
-        key_at(bytes, 20),
-        key_at(bytes, 30),
-    ]
-}
-
-// A cipher under the key of the ring that a number names.
-pub fn keyed(ring: [[u8; 10]; 4], number: u8, value: &[u8]) -> Made
-    ensures { λ r. ⌜ r ≡ keying ring number (now (value .entry)) ⌝ }
-{
-    if LAST_KEY < number {
-        return Made {
-            refusal: refusals::BAD_KEY_NUMBER,
-            registers: Registers {
-                a1: 0,
-                a0: 0,
-                b1: 0,
-                b0: 0,
-                c1: 0,
-                c0: 0,
-            },
-        };
-    }
-    let row = number as usize;
-    let key = ring[row];
-    made(&key, value)
-}
-
-// An array's length is known where it is lent as an array.
-fn made(key: &[u8; 10], value: &[u8]) -> Made
-    ensures { λ r. ⌜ (length (now (key .entry)) ≡ 10) × (r ≡ makingCipher (now (key .entry)) (now (value .entry))) ⌝ }
-{
-    Registers::new(key, value)
 }

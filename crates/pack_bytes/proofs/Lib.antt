@@ -1,3 +1,4 @@
 pub mod Opening
 pub mod Opposites
+pub mod Sealing
 pub mod Theorems

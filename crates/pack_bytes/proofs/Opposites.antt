@@ -8,8 +8,8 @@ use Rattle.refusals.specs.{Numbers.accepted, Numbers.noRoom, Rules.AllRight, Ru
 use Rattle.refusals.proofs.Faults.{none-wrong, right-both}
 use Rattle.refusals.proofs.Settled.{settled-number, answer-done}
 use Rattle.samples.proofs.Words.{Good}
-use Rattle.trivium.specs.Keystream.{trivium}
-use Rattle.pack.specs.{Calls.acceptedOpening, Places.sampleCount, Places.partsOf, Ring.ringOf}
+use Rattle.pack.specs.{Calls.acceptedOpening, Ciphers.cipherIn, Ciphers.ringIn, Places.sampleCount, Places.partsOf}
+use Rattle.rings.specs.Ring.{ringsOf}
 use Rattle.pack.specs.Faults.{faultsFromSamples, faultsFromKey, fileFaults, roomFaults, openFaults}
 use Rattle.pack.proofs.AcceptedFiles.{samples-counted}
 use Rattle.pack.proofs.Opposites.{front-at, good-opposite, given-good}
@@ -17,38 +17,38 @@ use Rattle.survey_bytes.specs.Calls.{answerNumbers, numbersRoom}
 use Rattle.pack_bytes.specs.{Calls.PackOpened, Calls.packOpened, Calls.packOpenFaults, Calls.packOpen}
 use Rattle.pack_bytes.specs.Opposites.{PackOpposites}
 
-module _ (file ring : List ℕ) (samples : List ℤ) (answer : List ℕ)
-    (taken : packOpen file ring samples answer .number ≡ accepted) where
+module _ (file keys : List ℕ) (samples : List ℤ) (answer : List ℕ)
+    (taken : packOpen file keys samples answer .number ≡ accepted) where
   abbrev run : List ℤ
-  run = partsOf trivium (ringOf ring) file .samples
+  run = partsOf (cipherIn file) (ringIn (ringsOf keys) file) file .samples
 
   abbrev numbers : List ℕ
-  numbers = answerNumbers (acceptedOpening trivium file)
+  numbers = answerNumbers (acceptedOpening (cipherIn file) file)
 
-  done : packOpen file ring samples answer ≡ packOpened (placed samples 0 run) (placed answer 0 numbers) accepted
+  done : packOpen file keys samples answer ≡ packOpened (placed samples 0 run) (placed answer 0 numbers) accepted
   unfolding packOpen
   done = answer-done _ _ _ (λ (o : PackOpened). o .number) refl (λ n. refl) refl taken
 
-  right : AllRight (fileFaults trivium file)
+  right : AllRight (fileFaults (cipherIn file) file)
   unfolding packOpen openFaults fileFaults faultsFromKey faultsFromSamples
   right =
-      let all = none-wrong (packOpenFaults file ring (length samples) (length answer)) tt
+      let all = none-wrong (packOpenFaults file keys (length samples) (length answer)) tt
       (sym (settled-number _ _ _ (λ (o : PackOpened). o .number) refl (λ n. refl)) ∙ taken) in
       let own =
-      right-both (openFaults trivium file (length samples)) ((length answer under numbersRoom says noRoom) ∷ [])
+      right-both (openFaults (cipherIn file) file (length samples)) ((length answer under numbersRoom says noRoom) ∷ [])
       (all .1) .0 in
-      right-both (fileFaults trivium file) (roomFaults (sampleCount trivium file) (length samples)) own .0
+      right-both (fileFaults (cipherIn file) file) (roomFaults (sampleCount (cipherIn file) file) (length samples)) own .0
 
-  counted : getD (packOpen file ring samples answer .answer) 0 0 ≡ length run
+  counted : getD (packOpen file keys samples answer .answer) 0 0 ≡ length run
   unfolding placed
-  counted = ap (λ (o : PackOpened). getD (o .answer) 0 0) done ∙ sym (samples-counted trivium (ringOf ring) file right)
+  counted = ap (λ (o : PackOpened). getD (o .answer) 0 0) done ∙ sym (samples-counted (cipherIn file) (ringIn (ringsOf keys) file) file right)
 
-  written-good : (i : ℕ) → i < length run → Good (getD (packOpen file ring samples answer .samples) i (pos 0))
+  written-good : (i : ℕ) → i < length run → Good (getD (packOpen file keys samples answer .samples) i (pos 0))
   written-good i h =
       subst Good (sym (ap (λ (o : PackOpened). getD (o .samples) i (pos 0)) done ∙ front-at samples run i h))
-      (given-good trivium (ringOf ring) file i)
+      (given-good (cipherIn file) (ringIn (ringsOf keys) file) file i)
 
-pub pack-opposites : (file ring : List ℕ) → PackOpposites file ring
-pack-opposites file ring samples answer i taken h =
-    good-opposite (getD (packOpen file ring samples answer .samples) i (pos 0))
-    (written-good file ring samples answer taken i (omega (arith, counted file ring samples answer taken)))
+pub pack-opposites : (file keys : List ℕ) → PackOpposites file keys
+pack-opposites file keys samples answer i taken h =
+    good-opposite (getD (packOpen file keys samples answer .samples) i (pos 0))
+    (written-good file keys samples answer taken i (omega (arith, counted file keys samples answer taken)))

@@ -7,6 +7,6 @@ use Rattle.pack_bytes.specs.Calls.{packOpen}
 
 -- every sample that is counted, by the first number of the answer, has an opposite of 16 bits
 abbrev pub PackOpposites : List ℕ → List ℕ → Type 0
-PackOpposites file ring =
-    (samples : List ℤ) (answer : List ℕ) (i : ℕ) → let o = packOpen file ring samples answer in
+PackOpposites file keys =
+    (samples : List ℤ) (answer : List ℕ) (i : ℕ) → let o = packOpen file keys samples answer in
     o .number ≡ accepted → i < getD (o .answer) 0 0 → mag (negℤ (getD (o .samples) i (pos 0))) < 32768

@@ -1,27 +1,27 @@
-// Packs for callers in other languages, who lend the ring of keys as bytes. A refused call writes nothing of all that
-// it was lent.
+// Packs for callers in other languages, who lend the rings of keys as one run of bytes. A refused call writes nothing of
+// all that it was lent.
 ghost use mathlib.Core.Path.{_≡_};
 ghost use lib.ListN.{length};
 ghost use Rattle.pack.specs.Layout.{parts};
-ghost use Rattle.pack.specs.Ring.{ringBytes, ringOf};
 ghost use Rattle.record_bytes.specs.Written.{wrote};
+ghost use Rattle.rings.specs.Ring.{keysBytes};
 ghost use Rattle.pack_bytes.specs.Calls.{packOpened, packOpen, packSeal};
 
-// The ring that its bytes are. An array's length is known where it is lent as an array.
-fn ring_in(bytes: &[u8]) -> [[u8; 10]; 4]
-    requires { ⌜ length (now bytes) ≡ ringBytes ⌝ }
-    ensures { λ r. ⌜ r ≡ ringOf (now (bytes .entry)) ⌝ }
+// The keys, all of them. An array's length is known where it is lent as an array.
+fn keys_in(bytes: &[u8]) -> [u8; 104]
+    requires { ⌜ length (now bytes) ≡ keysBytes ⌝ }
+    ensures { λ r. ⌜ r ≡ now (bytes .entry) ⌝ }
 {
-    let mut own = [0; pack::RING_BYTES];
+    let mut own = [0; rings::KEYS_BYTES];
     octet_writer::copy(&mut own, 0, bytes);
-    pack::ring_of(&own)
+    own
 }
 
-pub fn open(file: &[u8], ring: &[u8], samples: &mut [i16], answer: &mut [usize]) -> u8
+pub fn open(file: &[u8], keys: &[u8], samples: &mut [i16], answer: &mut [usize]) -> u8
     ensures { λ r. ⌜ packOpened (now (samples .exit)) (now (answer .exit)) r
-        ≡ packOpen (now (file .entry)) (now (ring .entry)) (now (samples .entry)) (now (answer .entry)) ⌝ }
+        ≡ packOpen (now (file .entry)) (now (keys .entry)) (now (samples .entry)) (now (answer .entry)) ⌝ }
 {
-    if ring.len() != pack::RING_BYTES {
+    if keys.len() != rings::KEYS_BYTES {
         return refusals::BAD_KEY;
     }
     if answer.len() < survey_bytes::NUMBERS {
@@ -32,7 +32,10 @@ pub fn open(file: &[u8], ring: &[u8], samples: &mut [i16], answer: &mut [usize])
         }
         return refusals::NO_ROOM;
     }
-    let opened = opener::open(file, ring_in(ring), samples);
+    let own = keys_in(keys);
+    let first = rings::trivium_ring(&own);
+    let second = rings::enocoro_ring(&own);
+    let opened = opener::open(file, first, second, samples);
     let refusal = opened.refusal;
     if refusal != refusals::ACCEPTED {
         return refusal;
@@ -41,9 +44,11 @@ pub fn open(file: &[u8], ring: &[u8], samples: &mut [i16], answer: &mut [usize])
     refusals::ACCEPTED
 }
 
+// The cipher is told by its key count. A count of neither is looked at behind the name, where the file would have it.
 pub fn seal(
     name: &[u8],
-    ring: &[u8],
+    keys: &[u8],
+    cipher: u8,
     key: u8,
     value: &[u8],
     samples: &[i16],
@@ -52,14 +57,35 @@ pub fn seal(
     written: &mut usize,
 ) -> u8
     ensures { λ r. ⌜ wrote (now (output .exit)) (now (written .exit)) r
-        ≡ packSeal (now (ring .entry))
+        ≡ packSeal cipher (now (keys .entry))
         (parts (now (name .entry)) key (now (value .entry)) (now (samples .entry)) (now (loops .entry)))
         (now (output .entry)) (now (written .entry)) ⌝ }
 {
-    if ring.len() != pack::RING_BYTES {
+    if keys.len() != rings::KEYS_BYTES {
         return refusals::BAD_KEY;
     }
-    let sealed = sealer::seal(name, ring_in(ring), key, value, samples, loops, output);
+    if cipher != pack::own_count(cipher) {
+        let named = seal_faults::name_fault(name);
+        if named != refusals::ACCEPTED {
+            return named;
+        }
+        return refusals::BAD_KEY_COUNT;
+    }
+    let own = keys_in(keys);
+    let first = rings::trivium_ring(&own);
+    let second = rings::enocoro_ring(&own);
+    let kind = pack::kind_of(cipher);
+    let sealed = sealer::seal(
+        kind,
+        name,
+        first,
+        second,
+        key,
+        value,
+        samples,
+        loops,
+        output,
+    );
     let refusal = sealed.refusal;
     if refusal != refusals::ACCEPTED {
         return refusal;

@@ -7,7 +7,8 @@ use Rattle.octets.specs.{Buffers.slice, Stream.Cipher}
 use Rattle.refusals.specs.{Numbers.accepted, Numbers.badKey, Rules.first, Rules.lacking, declared.Verdict.Verdict}
 use Rattle.refusals.proofs.Faults.{rule-passes, lacking-passes, verdict-at}
 use Rattle.refusals.proofs.Settled.{settled-done, settled-left, answer-left}
-use Rattle.pack.specs.{Calls.acceptedOpening, Calls.surveying, Faults.fileFaults, declared.Opened.Opened}
+use Rattle.pack.specs.{Calls.acceptedOpening, Calls.surveying, Calls.surveyingFile, Ciphers.cipherIn}
+use Rattle.pack.specs.{Faults.fileFaults, declared.Opened.Opened}
 use Rattle.pack.proofs.Theorems.{file-right, survey-refusal}
 use Rattle.pack_text.specs.Text.{packLines, refusedLine, inputFaults, textOf}
 
@@ -16,22 +17,24 @@ abbrev pub linesOf : List ℕ → Opened → List ℕ
 linesOf file o = packLines (slice file (o .«name_at») (o .«name_length»)) (o .key) (o .samples) (o .loops)
 
 -- too few bytes for the keys
-pub short-keys : (cipher : Cipher) (input : List ℕ) → length input < 40 → refusedLine 0 badKey ≡ textOf cipher input
+pub short-keys : (input : List ℕ) → length input < 104 → refusedLine 0 badKey ≡ textOf input
 unfolding textOf
-short-keys cipher input short =
-    let found = verdict-at 0 (inputFaults cipher input) short refl refl in
+short-keys input short =
+    let found = verdict-at 0 (inputFaults input) short refl refl in
     ap (λ (v : Verdict). refusedLine (v .lacks) badKey) found
-    ∙ settled-left (inputFaults cipher input) _ _ badKey (omega arith) (ap (λ (v : Verdict). v .number) found)
+    ∙ settled-left (inputFaults input) _ _ badKey (omega arith) (ap (λ (v : Verdict). v .number) found)
 
-module _ (cipher : Cipher) (input : List ℕ) {o : Opened} (keys : 40 ≤ length input)
-    (e : o ≡ surveying cipher (drop 40 input)) where
+module _ (input : List ℕ) {o : Opened} (keys : 104 ≤ length input) (e : o ≡ surveyingFile (drop 104 input)) where
   abbrev file : List ℕ
-  file = drop 40 input
+  file = drop 104 input
+
+  abbrev cipher : Cipher
+  cipher = cipherIn file
 
   found : o .refusal ≡ first (fileFaults cipher file)
   found = ap (λ (a : Opened). a .refusal) e ∙ survey-refusal cipher file
 
-  number : o .refusal ≡ first (inputFaults cipher input)
+  number : o .refusal ≡ first (inputFaults input)
   number = found ∙ rule-passes _ (fileFaults cipher file) keys
 
   done : o .refusal ≡ accepted → o ≡ acceptedOpening cipher file
@@ -45,19 +48,19 @@ module _ (cipher : Cipher) (input : List ℕ) {o : Opened} (keys : 40 ≤ length
       let right = file-right cipher file (sym found ∙ z) in
       omega (arith, ap (λ (a : Opened). a .«name_length») (done z))
 
-  pub told-accepted : o .refusal ≡ accepted → linesOf file o ≡ textOf cipher input
+  pub told-accepted : o .refusal ≡ accepted → linesOf file o ≡ textOf input
   unfolding textOf
-  told-accepted z = ap (linesOf file) (done z) ∙ settled-done (inputFaults cipher input) _ _ (sym z ∙ number)
+  told-accepted z = ap (linesOf file) (done z) ∙ settled-done (inputFaults input) _ _ (sym z ∙ number)
 
   -- the keys' own rule lacks nothing, so what is lacking is lacking in the file
-  lacks : o .refusal ≢ accepted → o .lacks ≡ lacking (inputFaults cipher input)
+  lacks : o .refusal ≢ accepted → o .lacks ≡ lacking (inputFaults input)
   unfolding surveying
   lacks h =
       ap (λ (a : Opened). a .lacks) (answer-left _ _ _ (λ (a : Opened). a .refusal) refl (λ n. refl) e h)
       ∙ lacking-passes _ (fileFaults cipher file) keys
 
-  pub told-refused : o .refusal ≢ accepted → refusedLine (o .lacks) (o .refusal) ≡ textOf cipher input
+  pub told-refused : o .refusal ≢ accepted → refusedLine (o .lacks) (o .refusal) ≡ textOf input
   unfolding textOf
   told-refused h =
       ap (λ (l : ℕ). refusedLine l (o .refusal)) (lacks h)
-      ∙ settled-left (inputFaults cipher input) _ _ (o .refusal) h number
+      ∙ settled-left (inputFaults input) _ _ (o .refusal) h number

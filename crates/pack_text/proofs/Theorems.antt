@@ -12,8 +12,8 @@ use Rattle.refusals.specs.{Numbers.accepted, Numbers.noRoom, Outcome.outcome}
 use Rattle.refusals.specs.Rules.{_over_, _says_, AllRight, told, first, lacking, settled}
 use Rattle.refusals.proofs.Faults.{all-right, none-wrong, first-append}
 use Rattle.refusals.proofs.Settled.{by-settled, settled-done, settled-left, settled-map}
-use Rattle.trivium.specs.Keystream.{trivium}
-use Rattle.pack.specs.Calls.{refusedOpening, acceptedOpening, lacksOf, surveying, openingPack}
+use Rattle.pack.specs.Calls.{refusedOpening, acceptedOpening, lacksOf, surveying, openingPack, surveyingFile}
+use Rattle.pack.specs.{Calls.openingFile, Ciphers.picked, Ciphers.cipherIn, Ciphers.Rings, Ciphers.ringIn}
 use Rattle.pack.specs.Faults.{faultsFromSamples, faultsFromKey, fileFaults, openFaults}
 use Rattle.pack.specs.{Layout.nameGood, Layout.loopsGood, Limits.mostSamples, Limits.longestFile}
 use Rattle.pack.specs.Places.{nameCount, keyNumber, sampleCount, loopCount, partsOf}
@@ -43,28 +43,29 @@ length-refused lacks number =
     simp length-append (omega (arith, length-decimal number, length-lacking lacks))
 
 -- no text is longer
-pub text-fits : (cipher : Cipher) (input : List ℕ) → length (textOf cipher input) ≤ 66
+pub text-fits : (input : List ℕ) → length (textOf input) ≤ 66
 unfolding textOf fileFaults faultsFromKey faultsFromSamples
-text-fits cipher input =
-    by-settled (inputFaults cipher input) _ (refusedLine (lacking (inputFaults cipher input))) (λ t. length t ≤ 66)
+text-fits input =
+    by-settled (inputFaults input) _ (refusedLine (lacking (inputFaults input))) (λ t. length t ≤ 66)
     (λ e.
-    let right : AllRight (inputFaults cipher input) = none-wrong (inputFaults cipher input) tt e in
-    let file : List ℕ = drop 40 input in
-    length-pack (slice file 1 (nameCount file)) (keyNumber file) (sampleCount cipher file) (loopCount cipher file)
+    let right : AllRight (inputFaults input) = none-wrong (inputFaults input) tt e in
+    let file : List ℕ = drop 104 input in
+    length-pack (slice file 1 (nameCount file)) (keyNumber file) (sampleCount (cipherIn file) file)
+    (loopCount (cipherIn file) file)
     (simp length-take (omega arith)) (omega arith) (omega arith) (omega arith))
-    (λ n e h. omega (arith, length-refused (lacking (inputFaults cipher input)) n))
+    (λ n e h. omega (arith, length-refused (lacking (inputFaults input)) n))
 
 -- ---- the first word
 
-pub accepted-begins : (cipher : Cipher) (input : List ℕ) → first (inputFaults cipher input) ≡ accepted
-    → take 5 (textOf cipher input) ≡ nameWord
+pub accepted-begins : (input : List ℕ) → first (inputFaults input) ≡ accepted
+    → take 5 (textOf input) ≡ nameWord
 unfolding textOf packLines
-accepted-begins cipher input e = ap (take 5) (sym (settled-done (inputFaults cipher input) _ _ (sym e)))
+accepted-begins input e = ap (take 5) (sym (settled-done (inputFaults input) _ _ (sym e)))
 
-pub refused-begins : (cipher : Cipher) (input : List ℕ) → first (inputFaults cipher input) ≢ accepted
-    → take 8 (textOf cipher input) ≡ refusedWord
+pub refused-begins : (input : List ℕ) → first (inputFaults input) ≢ accepted
+    → take 8 (textOf input) ≡ refusedWord
 unfolding textOf refusedLine
-refused-begins cipher input h = ap (take 8) (sym (settled-left (inputFaults cipher input) _ _ _ h refl))
+refused-begins input h = ap (take 8) (sym (settled-left (inputFaults input) _ _ _ h refl))
 
 -- ---- what opening answers
 
@@ -92,40 +93,41 @@ opens-as-surveyed cipher ring file output room =
     (room-enough cipher file (length output) room)
 
 -- the input's text says what opening its pack answers, under any ring
-pub text-opened : (cipher : Cipher) (ring : List (List ℕ)) (input : List ℕ) (output : List ℤ) → 40 ≤ length input
+pub text-opened : (r : Rings) (input : List ℕ) (output : List ℤ) → 104 ≤ length input
     → mostSamples ≤ length output
-    → let file = drop 40 input in
-    let o = openingPack cipher ring file output .answer in
-    (o .refusal ≡ accepted → textOf cipher input ≡ linesOf file o)
-    × (o .refusal ≢ accepted → textOf cipher input ≡ refusedLine (o .lacks) (o .refusal))
-text-opened cipher ring input output keys room =
-    let e = opens-as-surveyed cipher ring (drop 40 input) output room in
-    (λ z. sym (told-accepted cipher input keys e z), λ h. sym (told-refused cipher input keys e h))
+    → let file = drop 104 input in
+    let o = openingFile r file output .answer in
+    (o .refusal ≡ accepted → textOf input ≡ linesOf file o)
+    × (o .refusal ≢ accepted → textOf input ≡ refusedLine (o .lacks) (o .refusal))
+text-opened r input output keys room =
+    let file : List ℕ = drop 104 input in
+    let e = opens-as-surveyed (cipherIn file) (ringIn r file) file output room in
+    (λ z. sym (told-accepted input keys e z), λ h. sym (told-refused input keys e h))
 
 -- ---- an input that is longer than any pack
 
 -- a front with the keys and one byte more than the longest file has the whole input's text: both are refused alike
-pub front-told : (input : List ℕ) (n : ℕ) → 40 + longestFile < n → n ≤ length input
-    → textOf trivium (take n input) ≡ textOf trivium input
+pub front-told : (input : List ℕ) (n : ℕ) → 104 + longestFile < n → n ≤ length input
+    → textOf (take n input) ≡ textOf input
 front-told input n far long =
-    let file : List ℕ = drop 40 input in
-    let both : n ≡ 40 + (n - 40) = omega arith in
-    let part : drop 40 (take n input) ≡ take (n - 40) file =
-    ap (λ (k : ℕ). drop 40 (take k input)) both
-    ∙ ap (drop 40) (take-add 40 (n - 40) input)
-    ∙ drop-at (take 40 input) (take (n - 40) file) 40 (length-take-le 40 input (omega arith)) in
-    let refused = longer-refused file (omega (arith, length-drop 40 input)) in
+    let file : List ℕ = drop 104 input in
+    let both : n ≡ 104 + (n - 104) = omega arith in
+    let part : drop 104 (take n input) ≡ take (n - 104) file =
+    ap (λ (k : ℕ). drop 104 (take k input)) both
+    ∙ ap (drop 104) (take-add 104 (n - 104) input)
+    ∙ drop-at (take 104 input) (take (n - 104) file) 104 (length-take-le 104 input (omega arith)) in
+    let refused = longer-refused file (omega (arith, length-drop 104 input)) in
     sym
-    (told-refused trivium (take n input) (omega (arith, length-take-le n input long))
-    (sym (ap (surveying trivium) part ∙ front-decides file (n - 40) (omega arith))) refused)
-    ∙ told-refused trivium input (omega arith) refl refused
+    (told-refused (take n input) (omega (arith, length-take-le n input long))
+    (sym (ap surveyingFile part ∙ front-decides file (n - 104) (omega arith))) refused)
+    ∙ told-refused input (omega arith) refl refused
 
 -- ---- the paper's example, whole
 
 pub example-text :
-    textOf trivium
-    (replicate 40 0 ++ (1 ∷ 67 ∷ 11 ∷ 2 ∷ []) ++ replicate 10 0 ++ replicate 5 0)
+    textOf
+    (replicate 104 0 ++ (1 ∷ 67 ∷ 11 ∷ 2 ∷ []) ++ replicate 10 0 ++ replicate 5 0)
     ≡ line nameWord (67 ∷ []) ++ line keyWord (50 ∷ []) ++ line samplesWord (48 ∷ []) ++ line loopsWord (48 ∷ [])
 unfolding textOf fileFaults faultsFromKey faultsFromSamples packLines decimal trimmed digits
-    settled first told nameGood numberAfter loopsGood numbersAt
+    settled first told nameGood numberAfter loopsGood numbersAt picked
 example-text = refl

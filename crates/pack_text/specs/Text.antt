@@ -1,12 +1,13 @@
--- What the reading program prints of its input, 40 bytes of keys and then a pack: lines of ASCII codes.
+-- What the reading program prints of its input, 104 bytes of keys and then a pack: lines of ASCII codes.
 use Prim.Native.Nat.{ℕ, zero, suc, _+_}
 use mathlib.Core.List.{List, [], _∷_, _++_, map}
 use lib.ListN.{length, drop}
-use Rattle.octets.specs.{Buffers.slice, Buffers.put, Digits.digits, Stream.Cipher}
+use Rattle.octets.specs.{Buffers.slice, Buffers.put, Digits.digits}
 use Rattle.refusals.specs.{Numbers.badKey, Outcome.Outcome, Outcome.outcome}
 use Rattle.refusals.specs.Rules.{_under_, Fault, _says_, lacking, settled}
-use Rattle.pack.specs.{Faults.fileFaults, Places.nameCount, Places.keyNumber, Places.sampleCount, Places.loopCount}
-use Rattle.pack.specs.Ring.{ringBytes}
+use Rattle.pack.specs.{Ciphers.cipherIn, Faults.fileFaults, Places.nameCount, Places.keyNumber, Places.sampleCount}
+use Rattle.pack.specs.Places.{loopCount}
+use Rattle.rings.specs.Ring.{keysBytes}
 
 -- digits without the zeros at their front, as long as one is left
 unfoldable pub trimmed : List ℕ → List ℕ
@@ -54,16 +55,21 @@ lackingText (suc n) = 32 ∷ decimal (suc n)
 unfoldable pub refusedLine : ℕ → ℕ → List ℕ
 refusedLine lacks number = line refusedWord (decimal number ++ lackingText lacks)
 
--- the keys have to be all there, and then the pack decides
-abbrev pub inputFaults : Cipher → List ℕ → List Fault
-inputFaults cipher input = (length input under ringBytes says badKey) ∷ fileFaults cipher (drop ringBytes input)
+-- what stands behind the keys
+abbrev pub packIn : List ℕ → List ℕ
+packIn input = drop keysBytes input
 
-unfoldable pub textOf : Cipher → List ℕ → List ℕ
-textOf cipher input =
-    let file = drop ringBytes input in
-    settled (inputFaults cipher input)
-    (packLines (slice file 1 (nameCount file)) (keyNumber file) (sampleCount cipher file) (loopCount cipher file))
-    (refusedLine (lacking (inputFaults cipher input)))
+-- the keys have to be all there, and then the pack decides
+abbrev pub inputFaults : List ℕ → List Fault
+inputFaults input = (length input under keysBytes says badKey) ∷ fileFaults (cipherIn (packIn input)) (packIn input)
+
+unfoldable pub textOf : List ℕ → List ℕ
+textOf input =
+    let file = packIn input in
+    settled (inputFaults input)
+    (packLines (slice file 1 (nameCount file)) (keyNumber file) (sampleCount (cipherIn file) file)
+    (loopCount (cipherIn file) file))
+    (refusedLine (lacking (inputFaults input)))
 
 -- the text's length, room or not, and the text at the buffer's front if it has room there
 abbrev pub writing : List ℕ → List ℕ → Outcome ℕ ℕ

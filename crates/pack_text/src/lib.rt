@@ -5,7 +5,6 @@ ghost use lib.ListN.{length};
 ghost use Rattle.octets.specs.Buffers.{put};
 ghost use Rattle.octets.specs.Digits.{digits};
 ghost use Rattle.refusals.specs.Outcome.{outcome};
-ghost use Rattle.trivium.specs.Keystream as Keystream;
 ghost use Rattle.pack_text.specs.Text.{trimmed, decimal, line, nameWord, packLines, refusedLine, textOf, writing};
 
 // The decimal digit of a number that has so many digits below it.
@@ -110,12 +109,12 @@ fn write_refused(d: &mut [u8], lacks: usize, number: u8) -> usize
 fn write_text(d: &mut [u8], input: &[u8]) -> usize
     requires { ⌜ 128 ≤ length (now d) ⌝ }
     ensures { λ r. ⌜ outcome r (now (d .exit))
-        ≡ writing (textOf Keystream.trivium (now (input .entry))) (now (d .entry)) ⌝ }
+        ≡ writing (textOf (now (input .entry))) (now (d .entry)) ⌝ }
 {
-    if input.len() < pack::RING_BYTES {
+    if input.len() < rings::KEYS_BYTES {
         return write_refused(d, 0, refusals::BAD_KEY);
     }
-    let file = &input[pack::RING_BYTES..];
+    let file = &input[rings::KEYS_BYTES..];
     let opened = opener::survey(file);
     let refusal = opened.refusal;
     if refusal != refusals::ACCEPTED {
@@ -131,7 +130,7 @@ fn write_text(d: &mut [u8], input: &[u8]) -> usize
 // long it is, room or not.
 pub fn describe(input: &[u8], text: &mut [u8]) -> usize
     ensures { λ r. ⌜ outcome r (now (text .exit))
-        ≡ writing (textOf Keystream.trivium (now (input .entry))) (now (text .entry)) ⌝ }
+        ≡ writing (textOf (now (input .entry))) (now (text .entry)) ⌝ }
 {
     let mut lines = blank();
     let length = write_text(&mut lines, input);

@@ -1,4 +1,4 @@
-// Reads 40 bytes of keys and then a pack from standard input, and prints the text about them.
+// Reads all keys and then a pack from standard input, and prints the text about them.
 
 // The first buffer holds the keys and more than the longest pack. A longer input is refused by what stands in its
 // front, so what is not read changes nothing. The second holds more than the longest text.

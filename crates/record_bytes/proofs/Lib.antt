@@ -1,2 +1,4 @@
+pub mod Ciphers
+pub mod Fields
 pub mod Fronts
 pub mod Making

@@ -1,3 +1,4 @@
+pub mod Ciphers
 pub mod Front
 pub mod Making
 pub mod Written

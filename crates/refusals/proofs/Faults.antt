@@ -234,6 +234,13 @@ first-append (x ∷ xs) ys n =
 pub rule-passes : (f : Fault) (faults : List Fault) → Right (f .wrong) → first faults ≡ first (f ∷ faults)
 rule-passes f faults h = first-from 1 (f ∷ faults) (h, tt)
 
+-- and one that stands among them
+pub passes-among : (xs : List Fault) (f : Fault) (ys : List Fault) → Right (f .wrong)
+    → first (xs ++ ys) ≡ first (xs ++ (f ∷ ys))
+unfolding first told
+passes-among [] f ys h = rule-passes f ys h
+passes-among (x ∷ xs) f ys h = ap (cond (broken (x .wrong)) (x .number)) (passes-among xs f ys h)
+
 pub lacking-passes : (f : Fault) (faults : List Fault) → Right (f .wrong) → lacking faults ≡ lacking (f ∷ faults)
 unfolding lacking
 lacking-passes f faults h = told-from lack 0 1 (f ∷ faults) (h, tt)
@@ -291,3 +298,31 @@ reason-here f faults h = rw (wrong (f .wrong) h)
 pub reason-later : (f : Fault) (faults : List Fault) → Right (f .wrong) → suc (reason faults) ≡ reason (f ∷ faults)
 unfolding reason
 reason-later f faults h = rw (fine (f .wrong) h)
+
+-- ---- lists that begin alike
+
+-- Whatever is said of a list by its first broken rule is said by a front that has one: what stands behind it doesn't
+-- count.
+by-front : {A : Type 0} (say : List Fault → A) (here : Fault → A) (later : A → A)
+    → ((f : Fault) (faults : List Fault) → say (f ∷ faults) ≡ cond (broken (f .wrong)) (here f) (later (say faults)))
+    → (xs ys zs : List Fault) → (AllRight xs → ⊥) → say (xs ++ ys) ≡ say (xs ++ zs)
+by-front say here later law [] ys zs wrong = absurd (wrong tt)
+by-front {A} say here later law (f ∷ xs) ys zs wrong =
+    law f (xs ++ ys) ∙ go (broken (f .wrong)) refl (by-front say here later law xs ys zs) ∙ sym (law f (xs ++ zs))
+  where
+    go : (b : Bool) → broken (f .wrong) ≡ b → ((AllRight xs → ⊥) → say (xs ++ ys) ≡ say (xs ++ zs))
+        → cond b (here f) (later (say (xs ++ ys))) ≡ cond b (here f) (later (say (xs ++ zs)))
+    go true e rest = refl
+    go false e rest = ap later (rest (λ all. wrong (right (f .wrong) e, all)))
+
+-- the number, what is lacking, and the reason
+abbrev pub Alike : List Fault → List Fault → Type 0
+Alike xs ys = (verdict xs ≡ verdict ys) × (reason xs ≡ reason ys)
+
+pub alike-front : (xs ys zs : List Fault) → (AllRight xs → ⊥) → Alike (xs ++ ys) (xs ++ zs)
+unfolding told first lacking reason
+alike-front xs ys zs wrong = (
+  ap₂ verdictOf (by-front first (λ f. f .number) (λ n. n) (λ f faults. refl) xs ys zs wrong)
+      (by-front lacking (λ f. missing (f .wrong)) (λ n. n) (λ f faults. refl) xs ys zs wrong),
+  by-front reason (λ f. 0) suc (λ f faults. refl) xs ys zs wrong,
+)

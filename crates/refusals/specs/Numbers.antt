@@ -4,15 +4,15 @@ use Prim.Native.Nat.{ℕ}
 abbrev pub accepted : ℕ
 accepted = 0
 
--- key not 10 bytes
+-- a key, or all keys, not of the length due
 abbrev pub badKey : ℕ
 badKey = 1
 
--- initial value not 10 bytes, or pair name not 6
+-- an initial value not of its cipher's length, or pair name not 6
 abbrev pub badValue : ℕ
 badValue = 2
 
--- the C interface's own: bytes lent as a cipher that are not 48
+-- the C interface's own: bytes lent as a cipher that are not as many as its record has
 abbrev pub notACipher : ℕ
 notACipher = 3
 

@@ -1,2 +1,3 @@
+pub mod Bodies
 pub mod Reversed
 pub mod Words

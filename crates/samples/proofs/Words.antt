@@ -8,7 +8,8 @@ use native.Mathlib.{Nat.zero-add, Nat.mod-eq-of-lt, Omega.arith}
 use borrow.Author.Tests.{lt-ltb, le-ltb, ltb-true, ltb-false, eqb-false, ne-eqb}
 use lib.{Dec.eqb, Dec.ltb, IntN.ℤ, IntN.pos, IntN.negsuc, IntN.natAbs, IntN._-ℤ_, Signed.mag}
 use lib.ListN.{length, getD, take, drop, length-append}
-use Rattle.octets.specs.Digits.{number, digits}
+use Rattle.octets.specs.{Buffers.put, Digits.number, Digits.digits, Stream.Keystream, Stream.enciphered}
+use Rattle.octets.proofs.{Buffers.put-none, Streams.length-enciphered}
 use Rattle.octets.proofs.Numbers.{Below, number-below, digits-number, number-digits, length-digits}
 use Rattle.samples.specs.Words.{signed, unsigned, sampleOf, plainWord, wordOf, bytesOf, byTwos, wordsOf}
 use Rattle.samples.specs.Words.{NoLowest, bytesOfAll}
@@ -261,3 +262,11 @@ byte-lower (z ∷ zs) (suc i) h =
   where
     place : suc (suc (2 * i + 1)) ≡ 2 * suc i + 1
     place = omega arith
+
+-- ---- samples as bytes under a keystream, where they have no room
+
+pub no-room : (k : Keystream) (output : List ℕ) (at : ℕ) (zs : List ℤ) → length output < at + 2 * length zs
+    → output ≡ put output at (enciphered k (bytesOfAll zs))
+no-room k output at zs h =
+    put-none output at (enciphered k (bytesOfAll zs))
+    (omega (arith, length-enciphered k (bytesOfAll zs), length-bytes zs))

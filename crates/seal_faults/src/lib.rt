@@ -3,10 +3,11 @@ ghost use mathlib.Core.Bool.{cond};
 ghost use mathlib.Core.Path.{_≡_};
 ghost use Prim.Native.Nat.{_+_, _*_, _%_, _≤_};
 ghost use lib.ListN.{length};
-ghost use Rattle.pack.specs.Faults.{sealFaults};
+ghost use Rattle.pack.specs.Ciphers.{cipherOf};
+ghost use Rattle.pack.specs.Faults.{partNameFaults, sealFaults};
 ghost use Rattle.pack.specs.Layout.{parts, samplesGood, loopsGood};
 ghost use Rattle.refusals.specs.Rules.{first};
-ghost use Rattle.trivium.specs.Keystream as Keystream;
+use pack::Kind;
 
 // Whether each loop of an even run is in rule.
 fn loops_in_rule(loops: &[u32], samples: usize) -> bool
@@ -45,27 +46,17 @@ fn lowest_found(samples: &[i16]) -> u16
     found
 }
 
-// The length of a file with a name, samples and a run of loops of these lengths.
-fn file_length(name: usize, samples: usize, loops: usize) -> usize
-    requires { ⌜ (name ≤ 32) × (samples ≤ 16384) × (loops ≤ 16) ⌝ }
-    ensures { λ r. ⌜ r ≡ 18 + name + 2 * samples + 4 * loops ⌝ }
+// The length of a file whose name, initial value, samples and run of loops have these lengths.
+fn file_length(name: usize, value: usize, samples: usize, loops: usize) -> usize
+    requires { ⌜ (name ≤ 32) × (value ≤ 10) × (samples ≤ 16384) × (loops ≤ 16) ⌝ }
+    ensures { λ r. ⌜ r ≡ 8 + name + value + 2 * samples + 4 * loops ⌝ }
 {
-    18 + name + 2 * samples + 4 * loops
+    8 + name + value + 2 * samples + 4 * loops
 }
 
-// What the parts of a file have wrong, and whether the file has room.
-pub fn seal_fault(
-    name: &[u8],
-    key: u8,
-    value: &[u8],
-    samples: &[i16],
-    loops: &[u32],
-    room: usize,
-) -> u8
-    ensures { λ r. ⌜ r ≡ first (sealFaults Keystream.trivium
-        (parts (now (name .entry)) key (now (value .entry)) (now (samples .entry)) (now (loops .entry)))
-        (8 + length (now (name .entry)) + length (now (value .entry)) + 2 * length (now (samples .entry))
-        + 4 * length (now (loops .entry))) room) ⌝ }
+// What a name has wrong.
+pub fn name_fault(name: &[u8]) -> u8
+    ensures { λ r. ⌜ r ≡ first (partNameFaults (now (name .entry))) ⌝ }
 {
     if pack::MOST_NAME < name.len() {
         return refusals::LONG_NAME;
@@ -73,7 +64,30 @@ pub fn seal_fault(
     if !pack::name_good(name) {
         return refusals::BAD_NAME;
     }
-    if value.len() != trivium::VALUE_BYTES {
+    refusals::ACCEPTED
+}
+
+// What the parts of a file have wrong, and whether the file has room.
+pub fn seal_fault(
+    kind: Kind,
+    name: &[u8],
+    key: u8,
+    value: &[u8],
+    samples: &[i16],
+    loops: &[u32],
+    room: usize,
+) -> u8
+    ensures { λ r. ⌜ r ≡ first (sealFaults (cipherOf kind)
+        (parts (now (name .entry)) key (now (value .entry)) (now (samples .entry)) (now (loops .entry)))
+        (8 + length (now (name .entry)) + length (now (value .entry)) + 2 * length (now (samples .entry))
+        + 4 * length (now (loops .entry))) room) ⌝ }
+{
+    let fault = name_fault(name);
+    if fault != refusals::ACCEPTED {
+        return fault;
+    }
+    let expected = pack::value_bytes(kind);
+    if value.len() != expected {
         return refusals::BAD_VALUE;
     }
     if pack::LAST_KEY < key {
@@ -95,7 +109,7 @@ pub fn seal_fault(
     if !loops_in_rule(loops, samples.len()) {
         return refusals::BAD_LOOP;
     }
-    if room < file_length(name.len(), samples.len(), loops.len()) {
+    if room < file_length(name.len(), value.len(), samples.len(), loops.len()) {
         return refusals::NO_ROOM;
     }
     refusals::ACCEPTED

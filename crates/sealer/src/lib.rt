@@ -1,32 +1,38 @@
 // Sealing a sound: the sections of its pack, written one behind the other where nothing is wrong.
 ghost use mathlib.Core.List.{[], _∷_, _++_};
 ghost use mathlib.Core.Path.{_≡_};
-ghost use Prim.Native.Nat.{_+_, _*_, _/_, _≤_};
+ghost use Prim.Native.Nat.{suc, _+_, _*_, _/_, _≤_};
 ghost use lib.ListN.{length};
 ghost use Rattle.octets.specs.Buffers.{put};
 ghost use Rattle.octets.specs.Rows.{row};
-ghost use Rattle.pack.specs.Calls.{sealingPack};
-ghost use Rattle.pack.specs.Layout.{parts, fours};
+ghost use Rattle.octets.specs.Stream.{enciphered};
+ghost use Rattle.samples.specs.Words.{bytesOfAll};
+ghost use Rattle.trivium.specs.Keystream as Trivium;
+ghost use Rattle.enocoro.specs.Keystream as Enocoro;
+ghost use Rattle.pack.specs.Calls.{sealingFile};
+ghost use Rattle.pack.specs.Ciphers.{cipherOf, rings, ringFor};
+ghost use Rattle.pack.specs.Layout.{parts, fours, keyNamed};
 ghost use Rattle.refusals.specs.Outcome.{outcome};
-ghost use Rattle.trivium.specs.Keystream as Keystream;
+use pack::Kind;
 use pack::Sealed;
 
 // All that stands before the enciphered samples: the name, the key and the sample count, each behind the other.
 fn write_front(output: &mut [u8], name: &[u8], key: u8, value: &[u8], samples: usize)
-    requires { ⌜ (length (now name) ≤ 32) × (length (now value) ≡ 10) × (17 + length (now name) ≤ length (now output)) ⌝ }
+    requires { ⌜ (length (now name) ≤ 32) × (length (now value) ≤ 10)
+        × (7 + length (now name) + length (now value) ≤ length (now output)) ⌝ }
     ensures { λ _. ⌜ now (output .exit) ≡ put (now (output .entry)) 0
         ((length (now (name .entry)) ∷ now (name .entry))
-        ++ ((11 ∷ key ∷ now (value .entry)) ++ row (fours 1) (samples ∷ []))) ⌝ }
+        ++ ((suc (length (now (value .entry))) ∷ key ∷ now (value .entry)) ++ row (fours 1) (samples ∷ []))) ⌝ }
 {
     let key_at = 1 + name.len();
-    let sample_at = key_at + 2 + trivium::VALUE_BYTES;
+    let sample_at = key_at + 2 + value.len();
     octet_writer::write_number(output, 0, 1, name.len() as u64);
     octet_writer::copy(output, 1, name);
     octet_writer::write_number(
         output,
         key_at,
         2,
-        256 * (pack::KEY_COUNT as u64) + (key as u64),
+        256 * ((value.len() as u64) + 1) + (key as u64),
     );
     octet_writer::copy(output, key_at + 2, value);
     octet_writer::write_number(output, sample_at, 4, samples as u64);
@@ -46,34 +52,82 @@ fn write_loops(output: &mut [u8], at: usize, loops: &[u32])
     }
 }
 
-// Seals a sound: writes the pack file to the front of the output, and answers its length.
+// Samples under Trivium, at their place. An array's length is known where it is lent as an array.
+fn write_trivium(key: &[u8; 10], value: &[u8], samples: &[i16], output: &mut [u8], at: usize)
+    requires { ⌜ length (now value) ≡ 10 ⌝ }
+    ensures { λ _. ⌜ now (output .exit) ≡ put (now (output .entry)) at (enciphered
+        (Trivium.trivium .stream (now (key .entry)) (now (value .entry))) (bytesOfAll (now (samples .entry)))) ⌝ }
+{
+    let made = trivium::Registers::new(key, value);
+    body_writer::write_samples(made.registers, samples, output, at);
+}
+
+// The same under Enocoro.
+fn write_enocoro(key: &[u8; 16], value: &[u8], samples: &[i16], output: &mut [u8], at: usize)
+    requires { ⌜ length (now value) ≡ 8 ⌝ }
+    ensures { λ _. ⌜ now (output .exit) ≡ put (now (output .entry)) at (enciphered
+        (Enocoro.enocoro .stream (now (key .entry)) (now (value .entry))) (bytesOfAll (now (samples .entry)))) ⌝ }
+{
+    enocoro_body::seal_body(key, value, samples, output, at);
+}
+
+// Samples under the key of its ring that a cipher and a key number name, at their place.
+fn write_body(
+    kind: Kind,
+    ring: [[u8; 10]; 4],
+    second: [[u8; 16]; 4],
+    number: u8,
+    value: &[u8],
+    samples: &[i16],
+    output: &mut [u8],
+    at: usize,
+)
+    requires { ⌜ (number ≤ 3) × (length (now value) ≡ cipherOf kind .valueBytes) ⌝ }
+    ensures { λ _. ⌜ now (output .exit) ≡ put (now (output .entry)) at (enciphered
+        (cipherOf kind .stream (keyNamed (ringFor kind (rings ring second)) number) (now (value .entry)))
+        (bytesOfAll (now (samples .entry)))) ⌝ }
+{
+    let row = number as usize;
+    match kind {
+        Kind::Trivium => {
+            let key = ring[row];
+            write_trivium(&key, value, samples, output, at);
+        }
+        Kind::Enocoro => {
+            let key = second[row];
+            write_enocoro(&key, value, samples, output, at);
+        }
+    }
+}
+
+// Seals a sound under a cipher: writes the pack file to the front of the output, and answers its length.
 pub fn seal(
+    kind: Kind,
     name: &[u8],
     ring: [[u8; 10]; 4],
+    second: [[u8; 16]; 4],
     key: u8,
     value: &[u8],
     samples: &[i16],
     loops: &[u32],
     output: &mut [u8],
 ) -> Sealed
-    ensures { λ r. ⌜ outcome r (now (output .exit)) ≡ sealingPack Keystream.trivium ring
+    ensures { λ r. ⌜ outcome r (now (output .exit)) ≡ sealingFile kind (rings ring second)
         (parts (now (name .entry)) key (now (value .entry)) (now (samples .entry)) (now (loops .entry)))
         (now (output .entry)) ⌝ }
 {
-    let fault = seal_faults::seal_fault(name, key, value, samples, loops, output.len());
+    let fault = seal_faults::seal_fault(kind, name, key, value, samples, loops, output.len());
     if fault != refusals::ACCEPTED {
         return Sealed {
             refusal: fault,
             length: 0,
         };
     }
-    let body_at = 17 + name.len();
+    let body_at = 7 + name.len() + value.len();
     let loop_at = body_at + 2 * samples.len();
     let length = loop_at + 1 + 4 * loops.len();
     write_front(output, name, key, value, samples.len());
-    let made = pack::keyed(ring, key, value);
-    let registers = made.registers;
-    body_writer::write_samples(registers, samples, output, body_at);
+    write_body(kind, ring, second, key, value, samples, output, body_at);
     write_loops(output, loop_at, loops);
     Sealed {
         refusal: refusals::ACCEPTED,

@@ -3,8 +3,10 @@
 ghost use mathlib.Core.Path.{_≡_};
 ghost use Rattle.refusals.specs.Outcome.{outcome};
 ghost use Rattle.pack.specs.Layout.{parts};
+ghost use Rattle.record_bytes.specs.Ciphers.{ciphered};
 ghost use Rattle.record_bytes.specs.Written.{wrote};
-ghost use Rattle.cipher_bytes.specs.Calls.{cipherMake, ciphered, cipherEncipher};
+ghost use Rattle.cipher_bytes.specs.Calls.{cipherMake, cipherEncipher};
+ghost use Rattle.enocoro_bytes.specs.Calls.{enocoroMake, enocoroEncipher};
 ghost use Rattle.survey_bytes.specs.Calls.{packSurvey, packLacks, packLoops};
 ghost use Rattle.pack_bytes.specs.Calls.{packOpened, packOpen, packSeal};
 ghost use Rattle.sender_bytes.specs.Calls.{senderMake, senderBegin, senderSend, senderHear};
@@ -13,7 +15,7 @@ ghost use Rattle.link_status.specs.Calls.{senderStatus, receiverStatus};
 ghost use Rattle.semivrakh.specs.Version.{version};
 
 // Ten thousand times the version's first number, a hundred times its second, and its third.
-const VERSION: u32 = 500;
+const VERSION: u32 = 600;
 
 #[no_mangle]
 pub extern "C" fn semivrakh_version() -> u32
@@ -43,16 +45,36 @@ pub extern "C" fn semivrakh_cipher_encipher(
 }
 
 #[no_mangle]
+pub extern "C" fn semivrakh_enocoro_make(cipher: &mut [u8], key: &[u8], value: &[u8]) -> u8
+    ensures { λ r. ⌜ outcome r (now (cipher .exit))
+        ≡ enocoroMake (now (cipher .entry)) (now (key .entry)) (now (value .entry)) ⌝ }
+{
+    enocoro_bytes::make(cipher, key, value)
+}
+
+#[no_mangle]
+pub extern "C" fn semivrakh_enocoro_encipher(
+    cipher: &mut [u8],
+    input: &[u8],
+    output: &mut [u8],
+) -> u8
+    ensures { λ r. ⌜ ciphered (now (cipher .exit)) (now (output .exit)) r
+        ≡ enocoroEncipher (now (cipher .entry)) (now (input .entry)) (now (output .entry)) ⌝ }
+{
+    enocoro_bytes::encipher(cipher, input, output)
+}
+
+#[no_mangle]
 pub extern "C" fn semivrakh_pack_open(
     file: &[u8],
-    ring: &[u8],
+    keys: &[u8],
     samples: &mut [i16],
     answer: &mut [usize],
 ) -> u8
     ensures { λ r. ⌜ packOpened (now (samples .exit)) (now (answer .exit)) r
-        ≡ packOpen (now (file .entry)) (now (ring .entry)) (now (samples .entry)) (now (answer .entry)) ⌝ }
+        ≡ packOpen (now (file .entry)) (now (keys .entry)) (now (samples .entry)) (now (answer .entry)) ⌝ }
 {
-    pack_bytes::open(file, ring, samples, answer)
+    pack_bytes::open(file, keys, samples, answer)
 }
 
 #[no_mangle]
@@ -80,7 +102,8 @@ pub extern "C" fn semivrakh_pack_loops(file: &[u8], loops: &mut [u32], written: 
 #[no_mangle]
 pub extern "C" fn semivrakh_pack_seal(
     name: &[u8],
-    ring: &[u8],
+    keys: &[u8],
+    cipher: u8,
     key: u8,
     value: &[u8],
     samples: &[i16],
@@ -89,11 +112,21 @@ pub extern "C" fn semivrakh_pack_seal(
     written: &mut usize,
 ) -> u8
     ensures { λ r. ⌜ wrote (now (output .exit)) (now (written .exit)) r
-        ≡ packSeal (now (ring .entry))
+        ≡ packSeal cipher (now (keys .entry))
         (parts (now (name .entry)) key (now (value .entry)) (now (samples .entry)) (now (loops .entry)))
         (now (output .entry)) (now (written .entry)) ⌝ }
 {
-    pack_bytes::seal(name, ring, key, value, samples, loops, output, written)
+    pack_bytes::seal(
+        name,
+        keys,
+        cipher,
+        key,
+        value,
+        samples,
+        loops,
+        output,
+        written,
+    )
 }
 
 #[no_mangle]

@@ -4,7 +4,7 @@ use Prim.Native.Nat.{ℕ}
 use Rattle.octets.specs.Rows.{numbersAt}
 use Rattle.refusals.specs.{Outcome.outcome, Rules.Leaves}
 use Rattle.refusals.proofs.Settled.{settled-leaves}
-use Rattle.trivium.specs.Keystream.{trivium}
+use Rattle.pack.specs.Ciphers.{cipherIn}
 use Rattle.pack.specs.{Layout.fours, Places.loopsPlace, Places.partsOf}
 use Rattle.record_bytes.specs.Written.{wrote}
 use Rattle.survey_bytes.specs.Calls.{packSurvey, loopNumbers, packLoops}
@@ -20,6 +20,6 @@ unfolding packLoops
 pack-loops-leaves file loops before = settled-leaves _ _ _ (λ w. w .number) refl (λ n. refl)
 
 pub loops-of-parts : (ring : List (List ℕ)) (file : List ℕ)
-    → numbersAt (fours (loopNumbers file)) file (loopsPlace trivium file) ≡ partsOf trivium ring file .loops
+    → numbersAt (fours (loopNumbers file)) file (loopsPlace (cipherIn file) file) ≡ partsOf (cipherIn file) ring file .loops
 unfolding partsOf
 loops-of-parts ring file = refl

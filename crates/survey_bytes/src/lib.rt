@@ -9,8 +9,8 @@ ghost use Rattle.octets.specs.Buffers.{put};
 ghost use Rattle.octets.specs.Rows.{numbersAt};
 ghost use Rattle.refusals.specs.Outcome.{outcome};
 ghost use Rattle.refusals.specs.Rules.{first};
-ghost use Rattle.trivium.specs.Keystream.{trivium};
-ghost use Rattle.pack.specs.Calls.{surveying};
+ghost use Rattle.pack.specs.Calls.{surveyingFile};
+ghost use Rattle.pack.specs.Ciphers.{cipherIn};
 ghost use Rattle.pack.specs.Faults.{fileFaults, roomFaults};
 ghost use Rattle.pack.specs.Layout.{fours};
 ghost use Rattle.record_bytes.specs.Written.{wrote};
@@ -44,8 +44,8 @@ pub fn tell(answer: &mut [usize], opened: Opened)
 
 // Why what was told of a file can't be written to a run: the file's own fault, or too little room; or 0.
 fn fault(told: Opened, needed: usize, room: usize) -> u8
-    ensures { λ r. ⌜ ((file : List ℕ) → told ≡ surveying trivium file
-        → r ≡ first (fileFaults trivium file ++ roomFaults needed room)) ⌝ }
+    ensures { λ r. ⌜ ((file : List ℕ) → told ≡ surveyingFile file
+        → r ≡ first (fileFaults (cipherIn file) file ++ roomFaults needed room)) ⌝ }
 {
     let refusal = told.refusal;
     if refusal != refusals::ACCEPTED {

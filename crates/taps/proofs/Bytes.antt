@@ -18,6 +18,10 @@ pub keystream-from : (n : ℕ) (s : State) → from n (keystream s) ≡ keystrea
 unfolding keystream steps
 keystream-from n s = λ j i. keystream (steps-bytes n i s j) 0
 
+-- so a state that has gone so far has the keystream from there on
+pub gone : (s : State) (n : ℕ) {now : State} → now ≡ steps (8 * n) s → keystream now ≡ from n (keystream s)
+gone s n e = ap keystream e ∙ sym (keystream-from n s)
+
 -- and its elements are bytes
 pub keystream-bytes : (s : State) → OfBytes (keystream s)
 unfolding keystream

@@ -1,6 +1,6 @@
-// Single calls: small files and parts, each wrong in one way or in two, and what opening and sealing answer. Printed are
-// the answer's fields in their order and the whole output, of which the call was lent the first ROOM elements, or that
-// no element of it was written.
+// Single calls: small files and parts, each wrong in one way or in two, and what opening and sealing answer. Printed
+// are the answer's fields in their order and the whole output, of which the call was lent the first ROOM elements, or
+// that no element of it was written. The bytes of KEYS stand in the place of the first of the program's own keys.
 use crate::parts;
 ghost use mathlib.Core.Path.{_≡_};
 ghost use lib.ListN.{length};
@@ -38,9 +38,12 @@ pub fn open(row: &[u8]) {
     let lent = parts::least(test_kit::field_number(row, 3) as usize, SOUND_ROOM);
     let mut file = io::buffer();
     let mut output = sound_room();
+    let mut keys = parts::own_keys();
+    test_kit::field_bytes(row, 4, &mut keys);
     let opened = opener::open(
         test_kit::field_bytes(row, 2, &mut file),
-        parts::own_ring(),
+        rings::trivium_ring(&keys),
+        rings::enocoro_ring(&keys),
         &mut output[0..lent],
     );
     parts::print_opened(b"", opened);
@@ -52,7 +55,7 @@ pub fn seal(row: &[u8]) {
     let mut file = file_room();
     let sealed = parts::seal_row(
         row,
-        parts::own_ring(),
+        parts::kind_at(row, 8),
         test_kit::field_bytes(row, 2, &mut body),
         &mut file,
     );

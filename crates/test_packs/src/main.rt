@@ -1,11 +1,12 @@
 // Packs, a row for each case, by the row's first word:
 //
-//     open LABEL FILE ROOM
-//     seal LABEL SAMPLES NAME KEY VALUE LOOPS ROOM
-//     trip SEED COUNT NAME KEY VALUE LOOPS FILE_ROOM SOUND_ROOM
-//     lowest SEED COUNT NAME KEY VALUE LOOPS FILE_ROOM PLACE
+//     open LABEL FILE ROOM KEYS
+//     seal LABEL SAMPLES NAME KEY VALUE LOOPS ROOM CIPHER
+//     trip SEED COUNT NAME KEY VALUE LOOPS FILE_ROOM SOUND_ROOM CIPHER
+//     lowest SEED COUNT NAME KEY VALUE LOOPS FILE_ROOM PLACE CIPHER
 //
-// with two bytes for each sample and four for each number of a loop.
+// with two bytes for each sample and four for each number of a loop. The last word may be left out: then the keys are
+// the program's own, and the cipher is Trivium.
 mod calls;
 mod parts;
 mod trips;

@@ -1,12 +1,29 @@
-// A sealing from bytes and from a row, and an opening's answer in print.
+// Keys, a sealing from bytes and from a row, and an opening's answer in print.
 ghost use mathlib.Core.Path.{_≡_};
 ghost use Prim.Native.Nat.{min};
 ghost use lib.ListN.{length};
+use pack::Kind;
 use pack::Opened;
 use pack::Sealed;
 
-pub fn own_ring() -> [[u8; 10]; 4] {
-    pack::ring_of(b"first key.second keythird key.fourth key")
+// The keys of both rings as bytes: Trivium's four of ten bytes, and behind them Enocoro's four of 16.
+pub fn own_keys() -> [u8; 104]
+    ensures { λ r. ⌜ 104 ≡ length r ⌝ }
+{
+    *b"first key.second keythird key.fourth keyfirst rack key..second rack key.third rack key..fourth rack key."
+}
+
+// The cipher that a word of a row names. If there is no such word it is Trivium.
+pub fn kind_at(row: &[u8], n: usize) -> Kind {
+    if check::same(test_kit::field(row, n), b"enocoro") {
+        return Kind::Enocoro;
+    }
+    Kind::Trivium
+}
+
+// Where the samples of a file begin, if the initial value is at its place.
+pub fn body_at(kind: Kind, value_at: usize) -> usize {
+    value_at % 256 + pack::value_bytes(kind) % 11 + 4
 }
 
 // Of two numbers, the lower one.
@@ -127,8 +144,8 @@ fn first_numbers(run: &[u32], n: usize) -> &[u32] {
 // Seals samples of two bytes and loops of four for each number, into the first elements of the file as far as the room
 // goes.
 pub fn seal(
+    kind: Kind,
     name: &[u8],
-    ring: [[u8; 10]; 4],
     key: u8,
     value: &[u8],
     body: &[u8],
@@ -138,12 +155,15 @@ pub fn seal(
 ) -> Sealed {
     let mut sound = large_sound();
     let mut run = large_run();
+    let keys = own_keys();
     let lent = least(room, file.len());
     twos(body, &mut sound);
     fours(loops, &mut run);
     sealer::seal(
+        kind,
         name,
-        ring,
+        rings::trivium_ring(&keys),
+        rings::enocoro_ring(&keys),
         key,
         value,
         first_samples(&sound, body.len() / 2),
@@ -153,13 +173,13 @@ pub fn seal(
 }
 
 // The same with NAME KEY VALUE LOOPS ROOM from the row's last words, which begin at the fourth.
-pub fn seal_row(row: &[u8], ring: [[u8; 10]; 4], body: &[u8], file: &mut [u8]) -> Sealed {
+pub fn seal_row(row: &[u8], kind: Kind, body: &[u8], file: &mut [u8]) -> Sealed {
     let mut name = io::buffer();
     let mut value = io::buffer();
     let mut loops = io::buffer();
     seal(
+        kind,
         test_kit::field_bytes(row, 3, &mut name),
-        ring,
         (test_kit::field_number(row, 4) % 256) as u8,
         test_kit::field_bytes(row, 5, &mut value),
         body,

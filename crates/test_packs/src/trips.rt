@@ -5,6 +5,7 @@
 use crate::parts;
 ghost use mathlib.Core.Path.{_≡_};
 ghost use lib.ListN.{length};
+use pack::Kind;
 use pack::Opened;
 
 // What a sound begins with: both ends of the range and both sides of 0.
@@ -42,9 +43,11 @@ fn fill(seed: u64, bytes: &mut [u8]) {
     octet_writer::copy(bytes, 0, &edges);
 }
 
-// It has no key of the first.
-fn other_ring() -> [[u8; 10]; 4] {
-    pack::ring_of(b"first locksecondlockthird lockfourthlock")
+// Keys of which none is one of the program's own.
+fn other_keys() -> [u8; 104]
+    ensures { λ r. ⌜ 104 ≡ length r ⌝ }
+{
+    *b"first locksecondlockthird lockfourthlockfirst rack lock.second rack lockthird rack lock.fourth rack lock"
 }
 
 // The bytes of an output behind its n-th.
@@ -62,10 +65,15 @@ fn print_sound(output: &[i16; 16400], body: &[u8]) {
     print_rest(&bytes, body.len());
 }
 
-fn open(lead: &[u8], ring: [[u8; 10]; 4], file: &[u8], room: usize, body: &[u8]) -> Opened {
+fn open(lead: &[u8], keys: &[u8; 104], file: &[u8], room: usize, body: &[u8]) -> Opened {
     let mut output = sound_room();
     let lent = parts::least(room, SOUND_ROOM);
-    let opened = opener::open(file, ring, &mut output[0..lent]);
+    let opened = opener::open(
+        file,
+        rings::trivium_ring(keys),
+        rings::enocoro_ring(keys),
+        &mut output[0..lent],
+    );
     let samples = opened.samples;
     parts::print_opened(lead, opened);
     print_sound(&output, octets::slice(body, 0, 2 * (samples % 16385)));
@@ -83,16 +91,18 @@ fn compare_field(what: &[u8], file: &[u8], at: usize, n: usize, row: &[u8], fiel
 }
 
 // The parts of a file that are not enciphered, at the places that the answer says.
-fn print_parts(row: &[u8], file: &[u8], opened: Opened) {
+fn print_parts(row: &[u8], kind: Kind, file: &[u8], opened: Opened) {
     let loops = opened.loops;
+    let value_bytes = pack::value_bytes(kind);
     compare_field(b"name", file, opened.name_at, opened.name_length, row, 3);
-    compare_field(b"value", file, opened.value_at, 10, row, 5);
+    compare_field(b"value", file, opened.value_at, value_bytes, row, 5);
     compare_field(b"loops", file, opened.loops_at, 8 * (loops % 9), row, 6);
 }
 
 // A file sealed again with its own parts, under any key number, beside n bytes of it from a place.
 fn seal_again(
     what: &[u8],
+    kind: Kind,
     file: &[u8],
     opened: Opened,
     key: u8,
@@ -107,10 +117,10 @@ fn seal_again(
     let loops = opened.loops;
     let mut again = file_room();
     let sealed = parts::seal(
+        kind,
         octets::slice(file, name_at, name_length),
-        parts::own_ring(),
         key,
-        octets::slice(file, value_at, 10),
+        octets::slice(file, value_at, pack::value_bytes(kind)),
         body,
         octets::slice(file, loops_at, 8 * (loops % 9)),
         FILE_ROOM,
@@ -125,26 +135,28 @@ fn seal_again(
 }
 
 // The same file once more: with everything as it was, under another ring, and under the next key number.
-fn once_more(file: &[u8], bytes: usize, opened: Opened, body: &[u8]) {
+fn once_more(kind: Kind, file: &[u8], bytes: usize, opened: Opened, body: &[u8]) {
     let key = opened.key;
-    let body_at = opened.value_at % 256 + 14;
+    let keys = other_keys();
+    let body_at = parts::body_at(kind, opened.value_at);
     let next = (key % 4 + 1) % 4;
-    seal_again(b"file", file, opened, key, body, 0, FILE_ROOM);
+    seal_again(b"file", kind, file, opened, key, body, 0, FILE_ROOM);
     open(
         b"; other ring",
-        other_ring(),
+        &keys,
         octets::slice(file, 0, bytes),
         SOUND_ROOM,
         body,
     );
-    seal_again(b"body", file, opened, next, body, body_at, body.len());
+    seal_again(b"body", kind, file, opened, next, body, body_at, body.len());
 }
 
-fn back(row: &[u8], file: &[u8], bytes: usize, body: &[u8]) {
+fn back(row: &[u8], kind: Kind, file: &[u8], bytes: usize, body: &[u8]) {
     let room = test_kit::field_number(row, 8) as usize;
+    let keys = parts::own_keys();
     let opened = open(
         b"; opened",
-        parts::own_ring(),
+        &keys,
         octets::slice(file, 0, bytes),
         room,
         body,
@@ -152,18 +164,19 @@ fn back(row: &[u8], file: &[u8], bytes: usize, body: &[u8]) {
     if opened.refusal != refusals::ACCEPTED {
         return;
     }
-    print_parts(row, file, opened);
-    once_more(file, bytes, opened, body);
+    print_parts(row, kind, file, opened);
+    once_more(kind, file, bytes, opened, body);
 }
 
 fn there(row: &[u8], body: &[u8]) {
     let mut file = file_room();
-    let sealed = parts::seal_row(row, parts::own_ring(), body, &mut file);
+    let kind = parts::kind_at(row, 9);
+    let sealed = parts::seal_row(row, kind, body, &mut file);
     let bytes = sealed.length;
     test_kit::print_number(b"sealed ", sealed.refusal as u64);
     test_kit::print_number(b" ", bytes as u64);
     print_rest(&file, bytes);
-    back(row, &file, bytes, body);
+    back(row, kind, &file, bytes, body);
 }
 
 pub fn trip(row: &[u8]) {
@@ -187,35 +200,47 @@ fn turn_over(file: &[u8], at: usize, other: &mut [u8]) {
 }
 
 // Where the sample at a place has its last byte, or the end of all room if there is no such sample.
-fn last_byte(value_at: usize, count: usize, place: usize) -> usize {
+fn last_byte(body_at: usize, count: usize, place: usize) -> usize {
     if place < count {
-        return value_at % 256 + 15 + 2 * (place % 16384);
+        return std::num::wrapping_add_usize(body_at, 1 + 2 * (place % 16384));
     }
     FILE_ROOM
 }
 
 // A file, and another that differs from it in the last bit of a sample, or in nothing. The other one opens to the same
 // sound; sealed again it is the first one, and itself only if they don't differ.
-fn lowest_back(file: &[u8], other: &[u8], bytes: usize, body: &[u8]) {
+fn lowest_back(kind: Kind, file: &[u8], other: &[u8], bytes: usize, body: &[u8]) {
+    let keys = parts::own_keys();
     let opened = open(
         b"opened",
-        parts::own_ring(),
+        &keys,
         octets::slice(other, 0, bytes),
         SOUND_ROOM,
         body,
     );
-    seal_again(b"file", other, opened, opened.key, body, 0, FILE_ROOM);
-    seal_again(b"first file", file, opened, opened.key, body, 0, FILE_ROOM);
+    seal_again(b"file", kind, other, opened, opened.key, body, 0, FILE_ROOM);
+    seal_again(
+        b"first file",
+        kind,
+        file,
+        opened,
+        opened.key,
+        body,
+        0,
+        FILE_ROOM,
+    );
 }
 
 fn lowest_there(row: &[u8], body: &[u8], place: usize) {
     let mut file = file_room();
     let mut other = file_room();
-    let sealed = parts::seal_row(row, parts::own_ring(), body, &mut file);
+    let kind = parts::kind_at(row, 9);
+    let sealed = parts::seal_row(row, kind, body, &mut file);
     let first = opener::survey(octets::slice(&file, 0, sealed.length));
-    let at = last_byte(first.value_at, body.len() / 2, place);
+    let body_at = parts::body_at(kind, first.value_at);
+    let at = last_byte(body_at, body.len() / 2, place);
     turn_over(&file, at, &mut other);
-    lowest_back(&file, &other, sealed.length, body);
+    lowest_back(kind, &file, &other, sealed.length, body);
 }
 
 // With the lowest sample at PLACE, of which the file has 80 00 then.

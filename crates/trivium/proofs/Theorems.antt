@@ -1,21 +1,23 @@
--- What the public calls' definitions come to. Each theorem rests on the laws of steps and of bytes under any keystream.
-use mathlib.Core.{Path._≡_, Path.refl, Path.sym, Path.ap, Path.subst, Path._∙_, List.List, List._∷_, List._++_}
-use Prim.Native.Nat.{ℕ, zero, suc, _+_, _*_, _≤_}
+-- What the public calls' definitions come to. Each theorem rests on the laws of steps, and those on enciphering are what
+-- holds of any cipher.
+use mathlib.Core.{Path._≡_, Path.refl, Path.sym, Path.ap, Path.subst, Path._∙_, List.List, List._∷_}
+use Prim.Native.Nat.{ℕ, zero, suc, _*_, _≤_}
 use native.Mathlib.Omega.{arith}
-use lib.{ListN.length, ListN.take, ListN.drop, ListN.length-append, ListN.length-drop, Pow.shr-lt}
-use Rattle.octets.specs.{Buffers.placed, Digits.number, Stream.Keystream, Stream.enciphered}
-use Rattle.octets.proofs.Streams.{length-enciphered, enciphered-twice, enciphered-front, enciphered-cut}
+use lib.{ListN.length, ListN.take, Pow.shr-lt}
+use Rattle.octets.specs.{Buffers.placed, Digits.number, Stream.from, Stream.enciphered}
 use Rattle.refusals.specs.{Numbers.accepted, Outcome.Outcome, Outcome.outcome, Rules.Leaves, Rules.settled}
-use Rattle.refusals.proofs.Settled.{done-if, settled-leaves, settled-map, by-settled, answer-done}
-use Rattle.taps.specs.Keystream.{bits, keystream}
+use Rattle.refusals.proofs.Settled.{done-if, settled-leaves, settled-map, by-settled}
+use Rattle.ciphers.specs.Calls.{makeFaults, encipherFaults, TakenInTwo, GivesBack}
+use Rattle.ciphers.proofs.Enciphering as any
+use Rattle.taps.specs.Keystream.{bits, keystream, trivium}
 use Rattle.taps.specs.Registers.{State, loaded, next, steps, started, outputBit}
-use Rattle.taps.proofs.{Bytes.keystream-from, Steps.Held, Steps.held-steps, Steps.held-moved}
+use Rattle.taps.proofs.{Bytes.gone, Steps.Held, Steps.held-steps, Steps.held-moved}
 use Rattle.trivium.specs.{Engines.plainly, Engines.plainBits, Record.state, Record.packed, Record.Clean}
 use Rattle.trivium.specs.{declared.Enciphered.Enciphered, declared.Made.Made, declared.Registers.Registers}
-use Rattle.trivium.specs.{declared.Running.Running, Calls.refusedMaking, Calls.makeFaults, Calls.makingCipher}
-use Rattle.trivium.specs.Calls.{makingAt, stepping, striding, running, stopping, skipping, encipherFaults}
+use Rattle.trivium.specs.{declared.Running.Running, Calls.refusedMaking, Calls.makingCipher}
+use Rattle.trivium.specs.Calls.{makingAt, stepping, striding, running, stopping, skipping, answered, ahead}
 use Rattle.trivium.specs.Calls.{enciphering}
-use Rattle.trivium.proofs.Steps.{held-state, state-packed, state-steps, state-skip, skip-add, ran-word}
+use Rattle.trivium.proofs.Steps.{held-state, state-packed, state-started, state-steps, state-skip, skip-add, ran-word}
 use Rattle.trivium.proofs.Steps.{ran-state}
 
 -- ---- a refused call leaves everything as given
@@ -29,16 +31,21 @@ unfolding makingAt
 making-at-leaves key iv n = settled-leaves _ _ _ (λ m. m .refusal) refl (λ n. refl)
 
 pub enciphering-leaves : (r : Registers) (input output : List ℕ)
-    → Leaves (λ o. o .answer .refusal) (λ n. outcome (record { refusal = n; next = r }) output)
-    (enciphering r input output)
+    → Leaves (λ o. o .answer .refusal) (λ n. outcome (answered n r) output) (enciphering r input output)
 unfolding enciphering
-enciphering-leaves r input output = settled-leaves _ _ _ (λ o. o .answer .refusal) refl (λ n. refl)
+enciphering-leaves = any.enciphering-leaves answered ahead skipping (λ a. a .refusal) (λ n r. refl)
 
 -- a key and a value of ten bytes each aren't refused
 pub makes : (key iv : List ℕ) → length key ≡ 10 → length iv ≡ 10
     → makingCipher key iv ≡ record { refusal = accepted; registers = packed (started key iv) }
 unfolding makingCipher
 makes key iv ten teni = sym (done-if _ _ _ (ten, (teni, tt)))
+
+-- and what is made has their keystream
+pub made-stream : (key iv : List ℕ) → length key ≡ 10 → length iv ≡ 10
+    → ahead (makingCipher key iv .registers) ≡ keystream (started key iv)
+made-stream key iv ten teni =
+    ap (λ (m : Made). ahead (m .registers)) (makes key iv ten teni) ∙ ap keystream (state-started key iv)
 
 -- ---- made and moved on
 
@@ -96,18 +103,24 @@ running-agrees w =
 -- with room the call isn't refused
 pub enciphers : (r : Registers) (input output : List ℕ) → length input ≤ length output
     → enciphering r input output
-    ≡ outcome (record { refusal = accepted; next = skipping r (length input) })
+    ≡ outcome (answered accepted (skipping r (length input)))
     (placed output 0 (enciphered (keystream (state r)) input))
 unfolding enciphering
-enciphers r input output room = sym (done-if _ _ _ (room, tt))
+enciphers = any.enciphers answered ahead skipping
+
+-- and what it was asked for stands at the output's front
+pub enciphered-there : (r : Registers) (input output : List ℕ) (n : ℕ) → length input ≡ n → n ≤ length output
+    → take n (enciphering r input output .buffer) ≡ enciphered (ahead r) input
+unfolding enciphering
+enciphered-there = any.enciphered-there answered ahead skipping
 
 -- and with 0 it wasn't
 unrefused : (r : Registers) (input output : List ℕ) → enciphering r input output .answer .refusal ≡ accepted
     → enciphering r input output
-    ≡ outcome (record { refusal = accepted; next = skipping r (length input) })
+    ≡ outcome (answered accepted (skipping r (length input)))
     (placed output 0 (enciphered (keystream (state r)) input))
 unfolding enciphering
-unrefused r input output z = answer-done _ _ _ (λ o. o .answer .refusal) refl (λ n. refl) refl z
+unrefused = any.unrefused answered ahead skipping (λ a. a .refusal) (λ n r. refl)
 
 -- ---- spare bits
 
@@ -122,7 +135,7 @@ clean-steps n r = clean (steps n (state r)) (held-steps n (state r) (held-state 
 pub clean-made-at : (key iv : List ℕ) (n : ℕ) → Clean (makingAt key iv n .registers)
 unfolding makingAt
 clean-made-at key iv n =
-    by-settled (makeFaults key iv) _ _ (λ (m : Made). Clean (m .registers))
+    by-settled (makeFaults trivium key iv) _ _ (λ (m : Made). Clean (m .registers))
     (λ e. clean _ (held-steps (64 * n) (started key iv) (held-started key iv)))
     (λ n e h. record { a = omega arith; b = omega arith; c = omega arith })
 
@@ -199,36 +212,16 @@ same-ran w v same = (
   ap packed same,
 )
 
+-- the keystream goes on from where a record was moved to
+pub goes-on : (r : Registers) (n : ℕ) → ahead (skipping r n) ≡ from n (ahead r)
+goes-on r n = gone (state r) n (state-skip r n)
+
 -- A stream taken in two calls, the second at the place where the first stopped, is the stream taken in one.
-pub cut : (r : Registers) (xs ys output : List ℕ) → length xs + length ys ≤ length output
-    → let first = enciphering r xs output in
-    let second = enciphering (first .answer .next) ys (drop (length xs) (first .buffer)) in
-    enciphering r (xs ++ ys) output ≡ outcome (second .answer) (take (length xs) (first .buffer) ++ second .buffer)
-cut r xs ys output room =
-    let n : ℕ = length xs in
-    let halves = enciphered-front (keystream (state r)) xs output (omega arith) in
-    let gone = ap (skipping r) (length-append xs ys) ∙ sym (skip-add r n (length ys)) in
-    let more = keystream-from n (state r) ∙ ap keystream (sym (state-skip r n)) in
-    rw (
-      enciphers r xs output (omega arith),
-      halves .0,
-      halves .1,
-      enciphers (skipping r n) ys (drop n output) (simp length-drop (omega arith)),
-      enciphers r (xs ++ ys) output (simp length-append (omega arith)),
-      ← more,
-    )
-    (λ i.
-    outcome {A = Enciphered} (record { refusal = accepted; next = gone i })
-    (enciphered-cut (keystream (state r)) xs ys output room i))
+pub cut : TakenInTwo (λ a. a .next) enciphering
+unfolding enciphering
+cut = any.in-two answered ahead skipping (λ a. a .next) (λ n r. refl) skip-add goes-on
 
 -- To encipher twice from the same registers is to have the bytes back.
-pub twice : (r : Registers) (input output other : List ℕ) → length input ≤ length output → length input ≤ length other
-    → let sent = take (length input) (enciphering r input output .buffer) in
-    take (length input) (enciphering r sent other .buffer) ≡ input
-twice r input output other ho hr =
-    let k : Keystream = keystream (state r) in
-    let there : List ℕ = enciphered k input in
-    let long : length there ≡ length input = length-enciphered k input in
-    let sent = enciphered-front k input output ho .0 in
-    rw (enciphers r input output ho, sent, enciphers r there other (omega arith), ← long)
-    (enciphered-front k there other (omega arith) .0 ∙ enciphered-twice k input)
+pub twice : GivesBack enciphering
+unfolding enciphering
+twice = any.back answered ahead skipping

@@ -1,11 +1,9 @@
 -- What each public call owes: its answer, and what a lent buffer holds afterwards, for every input.
 use Prim.Native.Nat.{ℕ, _*_, _%_, _^_}
-use mathlib.Core.List.{List, [], _∷_}
-use lib.ListN.{length}
-use Rattle.octets.specs.{Buffers.slice, Buffers.placed, Digits.number, Stream.enciphered}
-use Rattle.refusals.specs.Numbers.{accepted, badKey, badValue, noRoom}
-use Rattle.refusals.specs.Outcome.{Outcome, outcome}
-use Rattle.refusals.specs.Rules.{Fault, _over_, _unlike_, _says_, settled}
+use mathlib.Core.List.{List}
+use Rattle.octets.specs.{Buffers.slice, Buffers.placed, Digits.number, Stream.Keystream, Stream.enciphered}
+use Rattle.refusals.specs.{Numbers.accepted, Outcome.Outcome, Rules.settled}
+use Rattle.ciphers.specs.Calls.{makeFaults, enciphersBy}
 use Rattle.taps.specs.Keystream.{bits, keystream, trivium}
 use Rattle.taps.specs.Registers.{State, outputBit, next, steps, started}
 use Rattle.trivium.specs.{Record.state, Record.packed, declared.Enciphered.Enciphered, declared.Made.Made}
@@ -16,20 +14,15 @@ abbrev pub refusedMaking : ℕ → Made
 refusedMaking number =
     record { refusal = number; registers = record { a1 = 0; a0 = 0; b1 = 0; b0 = 0; c1 = 0; c0 = 0 } }
 
-abbrev pub makeFaults : List ℕ → List ℕ → List Fault
-makeFaults key iv =
-    (length key unlike trivium .keyBytes says badKey)
-    ∷ (length iv unlike trivium .valueBytes says badValue)
-    ∷ []
-
 unfoldable pub makingCipher : List ℕ → List ℕ → Made
 makingCipher key iv =
-    settled (makeFaults key iv) (record { refusal = accepted; registers = packed (started key iv) }) refusedMaking
+    settled (makeFaults trivium key iv) (record { refusal = accepted; registers = packed (started key iv) })
+    refusedMaking
 
 -- the same, moved on by n strides
 unfoldable pub makingAt : List ℕ → List ℕ → ℕ → Made
 makingAt key iv n =
-    settled (makeFaults key iv)
+    settled (makeFaults trivium key iv)
     (record { refusal = accepted; registers = packed (steps (64 * n) (started key iv)) })
     refusedMaking
 
@@ -81,14 +74,13 @@ skipping r bytes = packed (steps (8 * bytes) (state r))
 abbrev pub partEnciphered : Registers → List ℕ → List ℕ → ℕ → ℕ → List ℕ
 partEnciphered r input output at n = placed output at (enciphered (keystream (state r)) (slice input at n))
 
-abbrev pub encipherFaults : List ℕ → List ℕ → List Fault
-encipherFaults input output = (length input over length output says noRoom) ∷ []
+-- a record's answer, and the keystream from the place where the record stands
+abbrev pub answered : ℕ → Registers → Enciphered
+answered number r = record { refusal = number; next = r }
+
+abbrev pub ahead : Registers → Keystream
+ahead r = keystream (state r)
 
 -- the bytes under the keystream, at the front of the output
 unfoldable pub enciphering : Registers → List ℕ → List ℕ → Outcome Enciphered ℕ
-enciphering r input output =
-    settled (encipherFaults input output)
-    (outcome
-    (record { refusal = accepted; next = skipping r (length input) })
-    (placed output 0 (enciphered (keystream (state r)) input)))
-    (λ number. outcome (record { refusal = number; next = r }) output)
+enciphering = enciphersBy answered ahead skipping

@@ -8,12 +8,12 @@ use lib.{Bits.bitXor, IntN.ℤ, ListN.length}
 use Rattle.octets.specs.{Buffers.slice, Buffers.put, Digits.digits, Stream.enciphered}
 use Rattle.samples.specs.Words.{swapped}
 use Rattle.octets.proofs.{Numbers.Below, Slices.length-slice, Slices.slice-add, Streams.under}
-use Rattle.samples.proofs.Reversed.{swapped-under}
+use Rattle.samples.proofs.{Bodies.samples-on, Reversed.swapped-under}
 use Rattle.trivium.specs.{Calls.running, Keystream.keystream, Record.state, Registers.State, Registers.steps}
 use Rattle.trivium.specs.{declared.Ran.Ran, declared.Running.Running}
-use Rattle.trivium.proofs.{Bytes.run-read, Steps.steps-add, Steps.ran-word, Steps.ran-below, Steps.ran-state}
+use Rattle.trivium.proofs.{Bytes.run-read, Bytes.gone, Steps.steps-add, Steps.ran-word, Steps.ran-below, Steps.ran-state}
 use Rattle.body_reader.specs.Unturned.{unturned}
-use Rattle.body_reader.proofs.{Samples.samples-on, read_chunk.Statement.statement}
+use Rattle.body_reader.proofs.read_chunk.Statement.{statement}
 use Rattle.body_reader.proofs.read_chunk.Tie as tie
 
 -- eight bytes under a stride's word are the bytes deciphered
@@ -65,8 +65,9 @@ returns c =
       put-so (put1 .put-four .last .0) (p .at / 2 + 4) (bitXor (read2 .eight-from2 .result) (turn2 .swapped2 .result))
           (put2 .put-four2 .ensures) (omega arith)
           ∙ ap (λ (l : List ℕ). put (put1 .put-four .last .0) (p .at / 2 + 4) (unturned l)) lower
-          ∙ samples-on _ s (state (one .next .registers)) xs ys (p .output .now) (p .at / 2) (omega arith)
-          (on ∙ ap (λ (n : ℕ). steps (8 * n) s) (sym front)) first (omega arith) (omega arith)
+          ∙ samples-on _ (keystream s) (keystream (state (one .next .registers))) xs ys (p .output .now) (p .at / 2)
+          (omega arith) (gone s (length xs) (on ∙ ap (λ (n : ℕ). steps (8 * n) s) (sym front))) first (omega arith)
+          (omega arith)
           ∙ ap (λ (l : List ℕ). put (p .output .now) (p .at / 2) (unturned (enciphered (keystream s) l)))
           (sym (slice-add (p .body .now) (p .at) 8 8)),
     )

@@ -9,47 +9,26 @@ use Rattle.octets.proofs.Buffers.{put-placed, put-none, put-nothing, put-over, 
 use Rattle.octets.proofs.{Numbers.Below, Numbers.below-slice, Slices.length-slice}
 use Rattle.samples.specs.Words.{wordOf, byTwos, wordsOf}
 use Rattle.trivium.specs.{Keystream.keystream, Record.state, Registers.State, Registers.steps}
-use Rattle.trivium.proofs.Bytes.{keystream-bytes}
+use Rattle.trivium.proofs.Bytes.{keystream-bytes, gone}
 use Rattle.trivium.proofs.Steps.{steps-none, steps-bytes, run-begun, run-stopped}
 use Rattle.body_reader.specs.Unturned.{lowFirst, unturned, turned, turnedFront}
-use Rattle.body_reader.proofs.{Samples.length-read, Samples.samples-on, Samples.turned-samples}
-use Rattle.body_reader.proofs.read_samples.Statement.{statement}
+use Rattle.samples.proofs.Bodies.{length-read, read, nothing-read, further}
+use Rattle.body_reader.proofs.{Samples.turned-samples, read_samples.Statement.statement}
 use Rattle.body_reader.proofs.read_samples.Tie as tie
-
--- what the body's front makes by twos, in its place
-abbrev read : (ℕ → ℕ → ℤ) → State → List ℕ → List ℤ → ℕ → List ℤ
-read make s body output at = put output 0 (byTwos make (enciphered (keystream s) (take at body)))
 
 abbrev Inv-loop : tie.InvT-loop
 Inv-loop body output₀ n running₀ at₀ output running at =
     (at ≤ length body) × (at % 16 ≡ 0) × (length output ≡ length output₀)
     × (state (running .registers) ≡ steps (8 * at) (state (running₀ .registers)))
-    × (output ≡ read lowFirst (state (running₀ .registers)) body output₀ at)
+    × (output ≡ read lowFirst (keystream (state (running₀ .registers))) body output₀ at)
 
 abbrev μ-loop : tie.MeasureT-loop
 μ-loop body output₀ n running₀ at₀ output running at = length body - at
 
-nothing : (s : State) (body : List ℕ) (output : List ℤ) → output ≡ read lowFirst s body output 0
-unfolding enciphered byTwos
-nothing s body output = put-nothing output 0
-
--- so many bytes further
-further : (make : ℕ → ℕ → ℤ) (s now : State) (body : List ℕ) (output left : List ℤ) (at size : ℕ) → at % 2 ≡ 0
-    → at + size ≤ length body
-    → length body / 2 ≤ length output → now ≡ steps (8 * at) s → left ≡ read make s body output at
-    → put left (at / 2) (byTwos make (enciphered (keystream now) (slice body at size)))
-    ≡ read make s body output (at + size)
-further make s now body output left at size even hb ho gone done =
-    let front : length (take at body) ≡ at = length-take-le at body (omega arith) in
-    let behind : length (slice body at size) ≡ size = length-slice body at size hb in
-    samples-on make s now (take at body) (slice body at size) output 0 (omega arith)
-    (gone ∙ ap (λ (n : ℕ). steps (8 * n) s) (sym front)) done (omega arith) (omega arith)
-    ∙ ap (λ (l : List ℕ). put output 0 (byTwos make (enciphered (keystream s) l))) (sym (take-add at size body))
-
 -- all that is there, turned
 all-turned : (s : State) (body : List ℕ) (output left : List ℤ) (at : ℕ) {count : ℕ} → count ≡ at / 2 → at ≤ length body
-    → length body / 2 ≤ length output → Below 256 body → left ≡ read lowFirst s body output at
-    → put left 0 (turnedFront count left) ≡ read wordOf s body output at
+    → length body / 2 ≤ length output → Below 256 body → left ≡ read lowFirst (keystream s) body output at
+    → put left 0 (turnedFront count left) ≡ read wordOf (keystream s) body output at
 unfolding turnedFront
 all-turned s body output left at {count} half hb ho b done =
     let front : List ℕ = take at body in
@@ -76,7 +55,7 @@ loop-holds : tie.Need-loop-holds Inv-loop μ-loop
 loop-holds c =
     let p = c .before .before .before .args in
     let s : State = state (c .of .result .registers) in
-    (omega arith, refl, refl, sym (steps-none s), nothing s (p .body .now) (p .output .now))
+    (omega arith, refl, refl, sym (steps-none s), nothing-read lowFirst (keystream s) (p .body .now) (p .output .now))
 
 loop-again : tie.Need-loop-again Inv-loop μ-loop
 loop-again c =
@@ -90,8 +69,8 @@ loop-again c =
       m .read-chunk .kept .1 .1 .0 ∙ l .inv .2,
       m .read-chunk .ensures .0 ∙ ap (steps 128) (l .inv .3) ∙ sym (steps-bytes (l .at) 16 s),
       m .read-chunk .ensures .1
-          ∙ further lowFirst s (state (l .running .registers)) (p .body .now) (p .output .now) (l .output) (l .at) 16
-          (omega arith) (omega arith) (omega arith) (l .inv .3) (l .inv .4),
+          ∙ further lowFirst (keystream s) _ (p .body .now) (p .output .now) (l .output) (l .at) 16 (omega arith)
+          (omega arith) (omega arith) (gone s (l .at) (l .inv .3)) (l .inv .4),
     )
 
 same-length : tie.Need-same-length Inv-loop μ-loop
@@ -113,12 +92,12 @@ returns-2 c =
     let n : ℕ = length (p .body .now) in
     let whole : l .at + n % 16 ≡ n = omega arith in
     m .read-rest .ensures
-    ∙ further wordOf s (state (last .stop .result)) (p .body .now) (p .output .now) (t .turn .last .0) (l .at) (n % 16)
-    (omega arith) (omega arith) (omega arith) (run-stopped (l .running) _ (last .stop .ensures) ∙ l .inv .3)
+    ∙ further wordOf (keystream s) _ (p .body .now) (p .output .now) (t .turn .last .0) (l .at) (n % 16) (omega arith)
+    (omega arith) (omega arith) (gone s (l .at) (run-stopped (l .running) _ (last .stop .ensures) ∙ l .inv .3))
     (t .turn .ensures
     ∙ all-turned s (p .body .now) (p .output .now) (l .output) (l .at) (omega arith) (omega arith) (omega arith)
     bytes (l .inv .4))
-    ∙ ap (read wordOf s (p .body .now) (p .output .now)) whole
+    ∙ ap (read wordOf (keystream s) (p .body .now) (p .output .now)) whole
     ∙ ap₂ (λ (s : State) (l : List ℕ). put (p .output .now) 0 (wordsOf (enciphered (keystream s) l)))
     (run-begun (p .start) _ (begun .of .ensures)) (take-all n (p .body .now) (omega arith))
 

@@ -8,7 +8,7 @@ use Rattle.octets.specs.{Buffers.slice, Buffers.placed, Buffers.put, Stream.enc
 use Rattle.octets.proofs.{Buffers.put-placed, Buffers.put-whole, Slices.length-slice, Slices.slice-rest}
 use Rattle.octets.proofs.Streams.{length-enciphered, length-run, read-on}
 use Rattle.trivium.specs.{Keystream.keystream, Record.state, Registers.State, Registers.steps}
-use Rattle.trivium.proofs.{Bytes.keystream-from, Steps.run-begun}
+use Rattle.trivium.proofs.{Bytes.gone, Steps.run-begun}
 use Rattle.body_writer.proofs.cover.Statement.{statement}
 use Rattle.body_writer.proofs.cover.Tie as tie
 
@@ -37,7 +37,7 @@ behind d at run n e room =
 further : (s mid : State) (body left : List ℕ) (at size : ℕ) → at + size ≤ length body → mid ≡ steps (8 * size) s
     → left ≡ put body at (enciphered (keystream s) (slice body at size))
     → covered mid left (at + size) ≡ covered s body at
-further s mid body left at size room gone done =
+further s mid body left at size room on done =
     let xs : List ℕ = slice body at size in
     let ys : List ℕ = drop (at + size) body in
     let front : length xs ≡ size = length-slice body at size room in
@@ -47,7 +47,7 @@ further s mid body left at size room gone done =
     ap (λ (l : List ℕ). put left (at + size) (enciphered (keystream mid) l))
     (ap (drop (at + size)) done ∙ behind body at (enciphered (keystream s) xs) size long room)
     ∙ read-on (λ l. l) (keystream s) xs ys body at (λ us vs e. refl)
-    (ap keystream (gone ∙ ap (λ (n : ℕ). steps (8 * n) s) (sym front)) ∙ sym (keystream-from (length xs) s)) done
+    (gone s (length xs) (on ∙ ap (λ (n : ℕ). steps (8 * n) s) (sym front))) done
     (omega arith) (omega arith)
     ∙ ap (λ (l : List ℕ). put body at (enciphered (keystream s) l)) (slice-rest body at size)
 

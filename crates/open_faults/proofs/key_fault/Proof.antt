@@ -1,10 +1,14 @@
 -- `open_faults::key_fault` meets its contract: the tests are the rules, one after the other, and then the samples'
--- rules decide.
-use mathlib.Core.Path.{_∙_}
+-- rules decide. A count that isn't refused is the picked cipher's own, so the section ends where its value does.
+use mathlib.Core.Path.{_≡_, ap, _∙_}
+use Prim.Native.Nat.{ℕ, _+_}
 use native.Mathlib.Omega.{arith}
 use borrow.Author.Needs.{needs}
+use Rattle.refusals.specs.Rules.{verdict}
 use Rattle.refusals.proofs.Faults.{verdict-at, verdict-from}
-use Rattle.pack.specs.Faults.{faultsFromKey}
+use Rattle.pack.specs.Ciphers.{cipherOf, picked}
+use Rattle.pack.specs.Faults.{faultsFromSamples, faultsFromKey}
+use Rattle.pack.specs.Places.{byteAt, keyEnd}
 use Rattle.open_faults.proofs.key_fault.Statement.{statement}
 use Rattle.open_faults.proofs.key_fault.Tie as tie
 
@@ -26,11 +30,17 @@ returns-4 c = c .verdict4 .ensures ∙ verdict-at 3 _ (omega arith) (omega arith
 
 returns-5 : tie.Need-returns-5
 unfolding faultsFromKey
-returns-5 c = c .sample-fault .ensures ∙ verdict-from 4 _ (omega arith)
+returns-5 c =
+    let p = c .before .before .before .before .before .before .before .before .before .args in
+    let f = p .file .now in
+    let end : ℕ = p .at + 1 + byteAt f (p .at) in
+    let same : end ≡ keyEnd (cipherOf (picked (byteAt f (p .at)))) (p .at) = omega arith in
+    c .sample-fault .ensures ∙ ap (λ (e : ℕ). verdict (faultsFromSamples f e)) same ∙ verdict-from 4 _ (omega arith)
 
 pub key-fault-spec : {M : Type 1} → statement M
 key-fault-spec =
     tie.close
-    (tie.spec (λ c. search needs) (λ c κs. search needs) returns (λ c. search needs) (λ c κs. search needs) returns-2
-    (λ c. search needs) (λ c. search needs) (λ c. search needs) (λ c κs. search needs) returns-3 (λ c. search needs)
-    (λ c. search needs) (λ c κs. search needs) returns-4 (λ c κs. search needs) returns-5)
+    (tie.spec (λ c. search needs) (λ c κs. search needs) returns (λ c. search needs) (λ c κs. search needs)
+    (λ c κs. search needs) returns-2 (λ c. search needs) (λ c. search needs) (λ c. search needs) (λ c. search needs)
+    (λ c κs. search needs) returns-3 (λ c. search needs) (λ c. search needs) (λ c κs. search needs) returns-4
+    (λ c κs. search needs) returns-5)

@@ -7,7 +7,6 @@ use lib.ListN.{length, take}
 use Rattle.octets.specs.Buffers.{slice, put}
 use Rattle.octets.proofs.Buffers.{put-placed, take-placed}
 use Rattle.refusals.specs.Outcome.{Outcome, outcome}
-use Rattle.trivium.specs.Keystream.{trivium}
 use Rattle.pack_text.specs.Text.{textOf}
 use Rattle.pack_text.proofs.Theorems.{text-fits}
 use Rattle.pack_text.proofs.describe.Statement.{statement}
@@ -19,10 +18,10 @@ returns c =
     let sliced = copied .before in
     let w = sliced .before .before .before .before in
     let start = w .before .before .before .before .before in
-    let t : List ℕ = textOf trivium (start .args .input .now) in
+    let t : List ℕ = textOf (start .args .input .now) in
     let blank : List ℕ = w .before .before .blank .result in
     let room : length t ≤ length blank = omega
-    (arith, w .before .before .blank .ensures, text-fits trivium (start .args .input .now)) in
+    (arith, w .before .before .blank .ensures, text-fits (start .args .input .now)) in
     let answer = ap (λ (o : Outcome ℕ ℕ). o .answer) (w .write-text .ensures) in
     let lines = ap (λ (o : Outcome ℕ ℕ). o .buffer) (w .write-text .ensures) in
     ap₂ (λ (n : ℕ) (d : List ℕ). outcome n d) answer

@@ -5,16 +5,15 @@ use native.Mathlib.Omega.{arith}
 use borrow.Author.Needs.{needs}
 use lib.{ListN.length, ListN.drop, ListN.length-drop, ListN.length-take, Seq.take-all}
 use Rattle.octets.specs.Buffers.{slice}
-use Rattle.trivium.specs.Keystream.{trivium}
-use Rattle.pack.specs.{Calls.surveying, declared.Opened.Opened}
+use Rattle.pack.specs.{Calls.surveyingFile, declared.Opened.Opened}
 use Rattle.pack_text.specs.Text.{packLines, writing}
 use Rattle.pack_text.proofs.write_text.Statement.{statement}
 use Rattle.pack_text.proofs.Surveys.{linesOf, short-keys, name-short, told-accepted, told-refused}
 use Rattle.pack_text.proofs.write_text.Tie as tie
 
 -- all that stands behind the keys
-behind : (input : List ℕ) → slice input 40 (length input - 40) ≡ drop 40 input
-behind input = take-all (length input - 40) (drop 40 input) (simp length-drop (omega arith))
+behind : (input : List ℕ) → slice input 104 (length input - 104) ≡ drop 104 input
+behind input = take-all (length input - 104) (drop 104 input) (simp length-drop (omega arith))
 
 module _ (c : tie.After-survey) where
   abbrev start : tie.Start
@@ -26,18 +25,18 @@ module _ (c : tie.After-survey) where
   abbrev d : List ℕ
   d = start .args .d .now
 
-  long : 40 ≤ length input
+  long : 104 ≤ length input
   long = c .before .before .if1 .left
 
-  answered : c .survey .result ≡ surveying trivium (drop 40 input)
-  answered = c .survey .ensures ∙ ap (surveying trivium) (behind input)
+  answered : c .survey .result ≡ surveyingFile (drop 104 input)
+  answered = c .survey .ensures ∙ ap surveyingFile (behind input)
 
 returns : tie.Need-returns
 returns c =
     let w = c .before .before in
     let p = w .before .before .before .before .before .args in
     w .write-refused .ensures
-    ∙ ap (λ (t : List ℕ). writing t (p .d .now)) (short-keys trivium (p .input .now) (w .before .before .if1 .taken))
+    ∙ ap (λ (t : List ℕ). writing t (p .d .now)) (short-keys (p .input .now) (w .before .before .if1 .taken))
 
 returns-2 : tie.Need-returns-2
 returns-2 c =
@@ -45,13 +44,13 @@ returns-2 c =
     let e = w .before .before in
     let s = e .before in
     w .write-refused2 .ensures
-    ∙ ap (λ (t : List ℕ). writing t (d s)) (told-refused trivium (input s) (long s) (answered s) (e .if2 .taken))
+    ∙ ap (λ (t : List ℕ). writing t (d s)) (told-refused (input s) (long s) (answered s) (e .if2 .taken))
 
 write-pack-requires : tie.Need-write-pack-requires
 write-pack-requires c κs =
     let e = c .before .before in
     let s = e .before in
-    let few = name-short trivium (input s) (long s) (answered s) (e .if2 .left) in
+    let few = name-short (input s) (long s) (answered s) (e .if2 .left) in
     let part = ap length (c .before .slice .ensures) ∙ length-take (s .survey .result .«name_length») _ in
     (omega arith, omega arith)
 
@@ -65,7 +64,7 @@ returns-3 c =
     ∙ ap (λ (t : List ℕ). writing t (d s))
     (ap (λ (name : List ℕ). packLines name (o .key) (o .samples) (o .loops)) (w .before .before .slice .ensures)
     ∙ ap (λ (f : List ℕ). linesOf f o) (behind (input s))
-    ∙ told-accepted trivium (input s) (long s) (answered s) (e .if2 .left))
+    ∙ told-accepted (input s) (long s) (answered s) (e .if2 .left))
 
 pub write-text-spec : {M : Type 1} → statement M
 write-text-spec =

@@ -9,7 +9,7 @@ use Rattle.octets.specs.{Buffers.put, Rows.numbersAt}
 use Rattle.octets.proofs.{Buffers.put-placed, Rows.many-read}
 use Rattle.refusals.specs.{Numbers.accepted, Rules.first}
 use Rattle.refusals.proofs.Settled.{settled-left, settled-done}
-use Rattle.trivium.specs.Keystream.{trivium}
+use Rattle.pack.specs.Ciphers.{cipherIn}
 use Rattle.pack.specs.{Layout.fours, Places.loopCount, Places.loopsPlace, declared.Opened.Opened}
 use Rattle.record_bytes.specs.Written.{wrote}
 use Rattle.survey_bytes.specs.Calls.{loopNumbers, packLoopsFaults, packLoops}
@@ -24,12 +24,15 @@ fault-is f =
     let told = f .before .survey .ensures in
     f .fault .ensures (p .file .now) told ∙ room-halved (p .file .now) _ _ ∙ same-loops (p .file .now) told _
 
+abbrev lent : tie.After-survey → List ℕ
+lent s = s .before .before .before .args .file .now
+
 -- what holds of a file and a run without a fault
 record Faultless (s : tie.After-survey) : Type 0 where
   taken : s .survey .result .refusal ≡ accepted
-  counted : s .survey .result .loops ≡ loopCount trivium (s .before .before .before .args .file .now)
-  found : s .survey .result .«loops_at» ≡ loopsPlace trivium (s .before .before .before .args .file .now)
-  fits : loopNumbers (s .before .before .before .args .file .now) ≤ length (s .before .before .before .args .loops .now)
+  counted : s .survey .result .loops ≡ loopCount (cipherIn (lent s)) (lent s)
+  found : s .survey .result .«loops_at» ≡ loopsPlace (cipherIn (lent s)) (lent s)
+  fits : loopNumbers (lent s) ≤ length (s .before .before .before .args .loops .now)
 
 faultless : (c : tie.Else1) → Faultless (c .before .before)
 faultless c =
@@ -69,11 +72,11 @@ returns-2 c =
     let file : List ℕ = p .file .now in
     let all = faultless e in
     let n : ℕ = loopNumbers file in
-    let size = many-read 4 n file (loopsPlace trivium file) in
+    let size = many-read 4 n file (loopsPlace (cipherIn file) file) in
     wrote-so
     (r .read-numbers .ensures
     ∙ (λ i. put (p .loops .now) 0 (numbersAt (fours (2 * all .counted i)) file (all .found i)))
-    ∙ put-placed (p .loops .now) 0 (numbersAt (fours n) file (loopsPlace trivium file)) (omega arith))
+    ∙ put-placed (p .loops .now) 0 (numbersAt (fours n) file (loopsPlace (cipherIn file) file)) (omega arith))
     (omega (arith, all))
     ∙ settled-done _ _ _ (sym (e .if1 .left) ∙ fault-is (e .before))
 

@@ -1,0 +1,4 @@
+pub mod Calls
+pub mod Keystream
+pub mod Record
+pub mod State

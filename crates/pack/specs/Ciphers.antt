@@ -1,0 +1,44 @@
+-- The ciphers that a pack may be under. A file's key count tells which, and sealing is told; each has a ring of four
+-- keys.
+use Prim.Native.Nat.{ℕ, suc}
+use mathlib.Core.{Bool.cond, List.List}
+use lib.Dec.{eqb}
+use Rattle.octets.specs.Stream.{Cipher}
+use Rattle.trivium.specs.Keystream.{trivium}
+use Rattle.enocoro.specs.Keystream.{enocoro}
+use Rattle.pack.specs.Places.{byteAt, keyPlace}
+use Rattle.pack.specs.{declared.Kind.Kind, declared.Kind.the-variants.Trivium}
+use Rattle.pack.specs.declared.Kind.the-variants.{Enocoro}
+
+abbrev pub cipherOf : Kind → Cipher
+cipherOf Trivium = trivium
+cipherOf Enocoro = enocoro
+
+-- what a key section counts: its key number, and the bytes of an initial value
+abbrev pub countOf : Kind → ℕ
+countOf kind = suc (cipherOf kind .valueBytes)
+
+-- the cipher that a key count picks: Enocoro for its own; every other count is held to Trivium's
+unfoldable pub picked : ℕ → Kind
+picked count = cond (eqb count (countOf Enocoro)) Enocoro Trivium
+
+-- and the one that a file is under
+abbrev pub kindIn : List ℕ → Kind
+kindIn file = picked (byteAt file (keyPlace file))
+
+abbrev pub cipherIn : List ℕ → Cipher
+cipherIn file = cipherOf (kindIn file)
+
+pub record Rings : Type 0 where
+  pub ofTrivium : List (List ℕ)
+  pub ofEnocoro : List (List ℕ)
+
+abbrev pub rings : List (List ℕ) → List (List ℕ) → Rings
+rings first second = record { ofTrivium = first; ofEnocoro = second }
+
+abbrev pub ringFor : Kind → Rings → List (List ℕ)
+ringFor Trivium r = r .ofTrivium
+ringFor Enocoro r = r .ofEnocoro
+
+abbrev pub ringIn : Rings → List ℕ → List (List ℕ)
+ringIn r file = ringFor (kindIn file) r

@@ -1,0 +1,14 @@
+-- Keys of any length: a run copied over as many bytes is the run.
+use mathlib.Core.{Path._≡_, Path.sym, Path.ap, Path._∙_, List.List}
+use Prim.Native.Nat.{ℕ, _+_, _≤_}
+use lib.ListN.{length, replicate, length-replicate}
+use Rattle.octets.specs.Buffers.{slice, put}
+use Rattle.octets.proofs.{Buffers.put-whole, Slices.length-slice}
+
+pub key-copied : (size at : ℕ) (bytes : List ℕ) {part key : List ℕ} → key ≡ put (replicate size 0) 0 part
+    → part ≡ slice bytes at size → at + size ≤ length bytes
+    → key ≡ slice bytes at size
+key-copied size at bytes copied cut room =
+    let blank : List ℕ = replicate size 0 in
+    copied ∙ ap (put blank 0) cut
+    ∙ put-whole blank (slice bytes at size) (length-slice bytes at size room ∙ sym (length-replicate {A = ℕ} size 0))
