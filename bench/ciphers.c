@@ -40,10 +40,10 @@ const struct cipher ciphers[CIPHERS] = {
         .own_record = own_enocoro_record,
         .engine_count = 4,
         .engines = {
-            { "own C, b in four words, gcc -O3", 1, own_enocoro_encipher },
-            { "own C, b in four words, clang -O3", 1, clang_enocoro_encipher },
-            { "own C, b in a moving window, gcc -O3", 0, own_enocoro_encipher_by_window },
-            { "own C, b in a moving window, clang -O3", 0, clang_enocoro_encipher_by_window },
+            { "own C, b in a moving window, gcc -O3", 1, own_enocoro_encipher_by_window },
+            { "own C, b in a moving window, clang -O3", 1, clang_enocoro_encipher_by_window },
+            { "own C, b in four words, gcc -O3", 0, own_enocoro_encipher },
+            { "own C, b in four words, clang -O3", 0, clang_enocoro_encipher },
         },
     },
 };

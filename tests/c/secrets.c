@@ -12,8 +12,8 @@
  * says: that address does depend on a key, and how long the reading takes is left to the caches, of which nothing is
  * tested here. Memcheck reports each such read ("use of uninitialised value of size 8"), and then takes what was read
  * for as public as the table is, so behind the box it would lose sight of the key. So while keys are hidden, the table
- * is marked as well: what comes out of it is secret then. The reports of this address alone, in the function that
- * reads the table, are kept back by secrets.supp. All else is tested of Enocoro's calls as it is of the others: no jump
+ * is marked as well: what comes out of it is secret then. The reports of these addresses, in the two functions that
+ * read the table, are kept back by secrets.supp, and counted by the script. All else is tested of Enocoro's calls as it is of the others: no jump
  * and no other address depends on a key, and none at all on a sound but the jump for 34.
  *
  * secrets [--broken (branch | address | answer | search | stream)]: prints one line, and before it whatever it found.

@@ -1,5 +1,6 @@
 pub mod Making
-pub mod Rounding
 pub mod States
+pub mod Stretches
 pub mod Theorems
+pub mod Windows
 pub mod Words

@@ -1,6 +1,6 @@
 -- How states move: a state of bytes stays one, packed and taken apart again it is the same, and rounds add up.
-use mathlib.Core.{Path._≡_, Path.refl, Path.sym, Path.ap, Path.ap₂, Path.subst, Path._∙_, List.List, List._∷_}
-use mathlib.Core.List.{[], _++_}
+use mathlib.Core.{Path._≡_, Path.refl, Path.sym, Path.ap, Path.ap₂, Path._∙_, List.List, List.[], List._∷_}
+use mathlib.Core.List.{_++_}
 use Prim.Native.Nat.{ℕ, zero, suc, _+_, _-_, _%_, _^_, _<_, _≤_}
 use native.Mathlib.Nat.{mod-eq-of-lt, zero-add, suc-add}
 use native.Mathlib.Omega.{arith}
@@ -14,8 +14,8 @@ use Rattle.sbox.specs.{Field.twice, S8.s8}
 use Rattle.sbox.proofs.Tables.{s8-below, twice-below}
 use Rattle.enocoro.specs.State.{State, _⟨_⟩, u0, u1, newA0, newA1, newB, next, rounds, loaded, constants, counted}
 use Rattle.enocoro.specs.State.{blanks, warmUp, started}
-use Rattle.enocoro.specs.{Calls.rounding, Calls.blanking, Calls.skipping, Keystream.keystream, Keystream.enocoro}
-use Rattle.enocoro.specs.{Record.state, Record.packed, declared.Registers.Registers, declared.Rounded.Rounded}
+use Rattle.enocoro.specs.{Calls.skipping, Keystream.keystream, Keystream.enocoro, Record.state, Record.packed}
+use Rattle.enocoro.specs.declared.Registers.{Registers}
 use Rattle.enocoro.proofs.Words.{_and_, nothing, below-append, below-digits, below-each, word-digits}
 
 -- ---- the two bytes a stay bytes, whatever b is
@@ -228,54 +228,6 @@ pub skip-add : (r : Registers) (n m : ℕ) → skipping (skipping r n) m ≡ ski
 unfolding skipping
 skip-add r n m = ap (λ (s : State). packed (rounds m s)) (state-skip r n) ∙ ap packed (sym (rounds-add n m (state r)))
 
--- one byte more
-pub skip-more : (r now : Registers) (n : ℕ) {m : ℕ} {answer : Rounded} → now ≡ skipping r n → answer ≡ rounding now
-    → m ≡ n + 1 → answer .next ≡ skipping r m
-unfolding rounding skipping
-skip-more r now n e made one =
-    ap (λ (x : Rounded). x .next) made
-    ∙ ap (λ (x : Registers). packed (next (state x))) e
-    ∙ ap (λ (s : State). packed (next s)) (state-skip r n)
-    ∙ ap packed (rounds-more n (state r))
-    ∙ ap (λ (k : ℕ). packed (rounds k (state r))) (sym one)
-
--- and which byte that is
-pub skip-byte : (r now : Registers) (n : ℕ) {answer : Rounded} → now ≡ skipping r n → answer ≡ rounding now
-    → answer .byte ≡ keystream (state r) n
-unfolding rounding keystream
-skip-byte r now n e made =
-    ap (λ (x : Rounded). x .byte) made
-    ∙ ap (λ (x : Registers). state x .a1) e
-    ∙ ap (λ (s : State). s .a1) (state-skip r n)
-
 pub skip-none : (r : Registers) → Fitting r → r ≡ skipping r 0
 unfolding skipping rounds
 skip-none r h = sym (packed-state r h)
-
--- ---- blank rounds
-
--- the counter that one takes is a fact about numbers
-state-blank : (r : Registers) (ctr : ℕ) {used : ℕ} {new : Registers} → new ≡ blanking r used → used ≡ ctr → ctr < 256
-    → state new ≡ next (counted ctr (state r))
-unfolding blanking
-state-blank r ctr made same small =
-    ap state (made ∙ ap (blanking r) same)
-    ∙ state-packed (next (counted ctr (state r))) (bytes-blank ctr (state r) small (bytes-state r))
-
--- what it answers has no more in it than its state
-pub blank-packed : (r : Registers) (ctr : ℕ) {used : ℕ} {new : Registers} → new ≡ blanking r used → used ≡ ctr
-    → ctr < 256 → packed (state new) ≡ new
-unfolding blanking
-blank-packed r ctr made same small = ap packed (state-blank r ctr made same small) ∙ sym (made ∙ ap (blanking r) same)
-
--- one of those that are left
-pub blank-turn : (r : Registers) (left ctr : ℕ) {used after : ℕ} {new : Registers} → new ≡ blanking r used → used ≡ ctr
-    → after ≡ twice ctr → ctr < 256 → 0 < left
-    → blanks (left - 1) after (state new) ≡ blanks left ctr (state r)
-unfolding blanks
-blank-turn r zero ctr made same turned small h = absurd (omega arith)
-blank-turn r (suc n) ctr made same turned small h =
-    λ i. blanks (one-less n i) (turned i) (state-blank r ctr made same small i)
-  where
-    one-less : (k : ℕ) → suc k - 1 ≡ k
-    one-less k = omega arith

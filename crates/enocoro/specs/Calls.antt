@@ -6,7 +6,7 @@ use Rattle.octets.specs.Stream.{Keystream, enciphered}
 use Rattle.ciphers.specs.Calls.{makeFaults, enciphersBy}
 use Rattle.refusals.specs.{Numbers.accepted, Outcome.Outcome, Outcome.outcome, Rules.settled}
 use Rattle.enocoro.specs.{Keystream.keystream, Keystream.enocoro, Record.state, Record.packed}
-use Rattle.enocoro.specs.State.{next, rounds, loaded, counted, blanks, warmUp, started}
+use Rattle.enocoro.specs.State.{next, rounds, loaded, blanks, warmUp, started}
 use Rattle.enocoro.specs.{declared.Enciphered.Enciphered, declared.Made.Made, declared.Registers.Registers}
 use Rattle.enocoro.specs.declared.Rounded.{Rounded}
 
@@ -28,10 +28,7 @@ makingCipher key iv =
 unfoldable pub rounding : Registers → Rounded
 rounding r = record { byte = state r .a1; next = packed (next (state r)) }
 
--- one round before the keystream begins, with its counter, and all of these
-unfoldable pub blanking : Registers → ℕ → Registers
-blanking r ctr = packed (next (counted ctr (state r)))
-
+-- all rounds before the keystream begins
 unfoldable pub warming : Registers → Registers
 warming r = packed (blanks warmUp 1 (state r))
 

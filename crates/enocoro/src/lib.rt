@@ -1,8 +1,13 @@
 ghost use mathlib.Core.Path.{_≡_};
+ghost use Prim.Native.Nat.{_+_, _-_, _≤_, min};
+ghost use lib.ListN.{length};
 ghost use Rattle.refusals.specs.Outcome.{outcome};
 ghost use Rattle.sbox.specs.S8.{printed};
-ghost use Rattle.enocoro.specs.Calls.{refusedMaking, loading, makingCipher, rounding, blanking, warming};
+ghost use Rattle.enocoro.specs.Calls.{refusedMaking, loading, makingCipher, rounding, warming};
 ghost use Rattle.enocoro.specs.Calls.{skipping, covering, enciphering};
+ghost use Rattle.enocoro.specs.Record.{state, packed};
+ghost use Rattle.enocoro.specs.State.{next};
+ghost use Rattle.enocoro.specs.Window.{mixing, windowed};
 
 // The 34 bytes: the two bytes a, and the 32 bytes b in words of eight, the first of them as the most significant.
 pub struct Registers {
@@ -52,6 +57,81 @@ fn refused_making(number: u8) -> Made
     }
 }
 
+// The two bytes a.
+struct Pair {
+    a0: u8,
+    a1: u8,
+}
+
+// How many of so many bytes a window has room for: a place for each round, before the 32 that the bytes b take.
+fn stretch(left: usize) -> usize
+    ensures { λ r. ⌜ r ≡ min left 256 ⌝ }
+{
+    if left < 256 { left } else { 256 }
+}
+
+fn blank_window() -> [u8; 288]
+    ensures { λ r. ⌜ length r ≡ 288 ⌝ }
+{
+    [0; 288]
+}
+
+// What rho makes of the two bytes a, from the bytes b2, b7, b16 and b29, by a lent table of S8.
+fn mixed(table: &[u8; 256], a0: u8, a1: u8, b2: u8, b7: u8, b16: u8, b29: u8) -> Pair
+    requires { ⌜ now table ≡ printed ⌝ }
+    ensures { λ r. ⌜ r ≡ mixing a0 a1 b2 b7 b16 b29 ⌝ }
+{
+    let u0 = a0 ^ table[b2 as usize];
+    let u1 = a1 ^ table[b7 as usize];
+    let v0 = u0 ^ u1 ^ table[b16 as usize];
+    let v1 = u0 ^ sbox::twice(u1) ^ table[b29 as usize];
+    Pair { a0: v0, a1: v1 }
+}
+
+// One round over a window that has the bytes b from `at` on. All but four of them stay where they are, and from then on
+// they begin one place earlier. What it reads it reads before the first store, all of it from the old state.
+fn slide(table: &[u8; 256], w: &mut [u8; 288], at: usize, a0: u8, a1: u8) -> Pair
+    requires { ⌜ (now table ≡ printed) × (length (now w) ≡ 288) × (1 ≤ at) × (at + 32 ≤ 288) ⌝ }
+    ensures { λ r. ⌜ (length (now (w .exit)) ≡ 288)
+        × (windowed (now (w .exit)) (at - 1) (r .a0) (r .a1) ≡ next (windowed (now (w .entry)) at a0 a1)) ⌝ }
+{
+    let b2 = w[at + 2];
+    let b6 = w[at + 6];
+    let b7 = w[at + 7];
+    let b15 = w[at + 15];
+    let b16 = w[at + 16];
+    let b28 = w[at + 28];
+    let b29 = w[at + 29];
+    let b31 = w[at + 31];
+    let next = mixed(table, a0, a1, b2, b7, b16, b29);
+    let v0 = next.a0;
+    let v1 = next.a1;
+    w[at - 1] = b31 ^ a0;
+    w[at + 2] = b2 ^ b6;
+    w[at + 7] = b7 ^ b15;
+    w[at + 16] = b16 ^ b28;
+    Pair { a0: v0, a1: v1 }
+}
+
+// The registers whose bytes b a window has from `at` on.
+fn taken(w: &[u8], at: usize, a0: u8, a1: u8) -> Registers
+    requires { ⌜ at + 32 ≤ length (now w) ⌝ }
+    ensures { λ r. ⌜ r ≡ packed (windowed (now (w .entry)) at a0 a1) ⌝ }
+{
+    let b0 = octets::number_at(w, at, 8);
+    let b1 = octets::number_at(w, at + 8, 8);
+    let b2 = octets::number_at(w, at + 16, 8);
+    let b3 = octets::number_at(w, at + 24, 8);
+    Registers {
+        a0,
+        a1,
+        b0,
+        b1,
+        b2,
+        b3,
+    }
+}
+
 impl Registers {
     // Key and initial value in their places, before any round. Whoever wants a cipher takes `new`.
     pub fn load(key: &[u8], iv: &[u8]) -> Made
@@ -93,108 +173,98 @@ impl Registers {
         }
     }
 
-    // One byte and one round, by the table of S8. Each byte b moves on by one place, and what comes out of a word goes into
-    // the next one; then the four that are changed on the way get their exclusive or.
-    fn round_by(self, table: &[u8; 256]) -> Rounded
-        requires { ⌜ now table ≡ printed ⌝ }
-        ensures { λ r. ⌜ r ≡ rounding self ⌝ }
+    // A window with the bytes b at its end.
+    fn window(self) -> [u8; 288]
+        ensures { λ r. ⌜ (length r ≡ 288) × (windowed r 256 (self .a0) (self .a1) ≡ state self) ⌝ }
     {
-        let a0 = self.a0;
-        let a1 = self.a1;
-        let b0 = self.b0;
-        let b1 = self.b1;
-        let b2 = self.b2;
-        let b3 = self.b3;
-        let u0 = a0 ^ table[((b0 >> 40) % 256) as usize];
-        let u1 = a1 ^ table[(b0 % 256) as usize];
-        let v0 = u0 ^ u1 ^ table[(b2 >> 56) as usize];
-        let v1 = u0 ^ sbox::twice(u1) ^ table[((b3 >> 16) % 256) as usize];
-        Rounded {
-            byte: a1,
-            next: Registers {
-                a0: v0,
-                a1: v1,
-                b0: ((b0 >> 8) + ((b3 % 256) << 56))
-                    ^ ((a0 as u64) << 56)
-                    ^ (((b0 >> 8) % 256) << 32),
-                b1: ((b1 >> 8) + ((b0 % 256) << 56)) ^ ((b1 % 256) << 56),
-                b2: ((b2 >> 8) + ((b1 % 256) << 56)) ^ (((b3 >> 24) % 256) << 48),
-                b3: (b3 >> 8) + ((b2 % 256) << 56),
-            },
-        }
+        let mut w = blank_window();
+        octet_writer::write_number(&mut w, 256, 8, self.b0);
+        octet_writer::write_number(&mut w, 264, 8, self.b1);
+        octet_writer::write_number(&mut w, 272, 8, self.b2);
+        octet_writer::write_number(&mut w, 280, 8, self.b3);
+        w
     }
 
-    // One byte and one round.
-    pub fn round(self) -> Rounded
-        ensures { λ r. ⌜ r ≡ rounding self ⌝ }
-    {
-        let table = sbox::table();
-        self.round_by(&table)
-    }
-
-    // A round before the keystream begins: its counter goes into the last byte b first.
-    fn blank(self, table: &[u8; 256], counter: u8) -> Registers
-        requires { ⌜ now table ≡ printed ⌝ }
-        ensures { λ r. ⌜ r ≡ blanking self counter ⌝ }
-    {
-        let b3 = self.b3;
-        let counted = Registers {
-            a0: self.a0,
-            a1: self.a1,
-            b0: self.b0,
-            b1: self.b1,
-            b2: self.b2,
-            b3: b3 ^ (counter as u64),
-        };
-        let rounded = counted.round_by(table);
-        rounded.next
-    }
-
-    // All blank rounds.
+    // All blank rounds: before each, its counter goes into the last byte b.
     fn warmed_up(self) -> Registers
         ensures { λ r. ⌜ r ≡ warming self ⌝ }
     {
         let table = sbox::table();
-        let mut registers = self;
+        let mut w = self.window();
+        let mut a0 = self.a0;
+        let mut a1 = self.a1;
         let mut counter: u8 = 1;
-        let mut left = BLANK_ROUNDS;
-        while 0 < left {
-            let now = counter;
-            counter = sbox::twice(counter);
-            registers = registers.blank(&table, now);
-            left -= 1;
-        }
-        registers
-    }
-
-    // The registers after so many bytes of keystream that nobody takes.
-    pub fn skip(self, bytes: usize) -> Registers
-        ensures { λ r. ⌜ r ≡ skipping self bytes ⌝ }
-    {
-        let table = sbox::table();
-        let mut registers = self;
         let mut i = 0;
-        while i < bytes {
-            let rounded = registers.round_by(&table);
-            registers = rounded.next;
+        while i < BLANK_ROUNDS {
+            w[287 - i] = w[287 - i] ^ counter;
+            counter = sbox::twice(counter);
+            let next = slide(&table, &mut w, 256 - i, a0, a1);
+            a0 = next.a0;
+            a1 = next.a1;
             i += 1;
         }
-        registers
+        taken(&w, 256 - i, a0, a1)
     }
 
-    // Bytes enciphered where they stand, and the registers behind them.
+    // At most 256 bytes enciphered where they stand: as many rounds as a window has room for.
+    fn cover_stretch(self, table: &[u8; 256], bytes: &mut [u8]) -> Registers
+        requires { ⌜ (now table ≡ printed) × (length (now bytes) ≤ 256) ⌝ }
+        ensures { λ r. ⌜ outcome r (now (bytes .exit)) ≡ covering self (now (bytes .entry)) ⌝ }
+    {
+        let n = bytes.len();
+        let mut w = self.window();
+        let mut a0 = self.a0;
+        let mut a1 = self.a1;
+        let mut i = 0;
+        while i < n {
+            let next = slide(table, &mut w, 256 - i, a0, a1);
+            let v0 = next.a0;
+            let v1 = next.a1;
+            bytes[i] = bytes[i] ^ a1;
+            a0 = v0;
+            a1 = v1;
+            i += 1;
+        }
+        taken(&w, 256 - i, a0, a1)
+    }
+
+    // Bytes enciphered where they stand, and the registers behind them: stretch by stretch.
     pub fn cover(self, bytes: &mut [u8]) -> Registers
         ensures { λ r. ⌜ outcome r (now (bytes .exit)) ≡ covering self (now (bytes .entry)) ⌝ }
     {
         let n = bytes.len();
         let table = sbox::table();
         let mut registers = self;
-        let mut i = 0;
-        while i < n {
-            let rounded = registers.round_by(&table);
-            bytes[i] = bytes[i] ^ rounded.byte;
-            registers = rounded.next;
-            i += 1;
+        let mut at = 0;
+        while at < n {
+            let size = stretch(n - at);
+            registers = registers.cover_stretch(&table, &mut bytes[at..at + size]);
+            at += size;
+        }
+        registers
+    }
+
+    // One byte and one round.
+    pub fn round(self) -> Rounded
+        ensures { λ r. ⌜ r ≡ rounding self ⌝ }
+    {
+        let mut covered: [u8; 1] = [0];
+        let byte = self.a1;
+        let next = self.cover(&mut covered);
+        Rounded { byte, next }
+    }
+
+    // The registers after so many bytes of keystream that nobody takes: they go over bytes that nobody reads.
+    pub fn skip(self, bytes: usize) -> Registers
+        ensures { λ r. ⌜ r ≡ skipping self bytes ⌝ }
+    {
+        let mut registers = self;
+        let mut left = bytes;
+        while 0 < left {
+            let mut covered = blank_window();
+            let size = stretch(left);
+            registers = registers.cover(&mut covered[0..size]);
+            left -= size;
         }
         registers
     }

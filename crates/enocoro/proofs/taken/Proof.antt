@@ -1,0 +1,21 @@
+-- `enocoro::taken` meets its contract: the words that it reads are those of the window's part.
+use native.Mathlib.Omega.{arith}
+use borrow.Author.Needs.{needs}
+use Rattle.enocoro.proofs.{Windows.taken-out, taken.Statement.statement}
+use Rattle.enocoro.proofs.taken.Tie as tie
+
+returns : tie.Need-returns
+returns c =
+    let second = c .before .before in
+    let known = second .before .before in
+    let p = known .before .args in
+    taken-out (p .w .now) (p .at) (p .a0) (p .a1) (omega arith)
+    (λ i. omega (arith, known .shared-slice-known .given i))
+    (omega (arith, second .before .number-at .ensures)) (omega (arith, second .number-at2 .ensures))
+    (omega (arith, c .before .number-at3 .ensures)) (omega (arith, c .number-at4 .ensures))
+
+pub taken-spec : {M : Type 1} → statement M
+taken-spec =
+    tie.close
+    (tie.spec (λ c κs. tt) (λ c. search needs) (λ c κs. tt) (λ c. search needs) (λ c κs. tt) (λ c. search needs)
+    (λ c κs. tt) returns)
