@@ -1,6 +1,7 @@
 ghost use mathlib.Core.Path.{_≡_};
 ghost use Prim.Native.Nat.{_+_, _-_, _≤_, min};
 ghost use lib.ListN.{length};
+ghost use Rattle.octets.specs.Digits.{numberAt, word};
 ghost use Rattle.refusals.specs.Outcome.{outcome};
 ghost use Rattle.sbox.specs.S8.{printed};
 ghost use Rattle.enocoro.specs.Calls.{refusedMaking, loading, makingCipher, rounding, warming};
@@ -113,15 +114,24 @@ fn slide(table: &[u8; 256], w: &mut [u8; 288], at: usize, a0: u8, a1: u8) -> Pai
     Pair { a0: v0, a1: v1 }
 }
 
+// Eight bytes from `at`, all of them there, as a word. They are lent by themselves, for the compiler to see that none is
+// missing.
+fn word_there(w: &[u8], at: usize) -> u64
+    requires { ⌜ at + 8 ≤ length (now w) ⌝ }
+    ensures { λ r. ⌜ r ≡ word (numberAt (now (w .entry)) at 8) ⌝ }
+{
+    octets::number_at(&w[at..at + 8], 0, 8)
+}
+
 // The registers whose bytes b a window has from `at` on.
 fn taken(w: &[u8], at: usize, a0: u8, a1: u8) -> Registers
     requires { ⌜ at + 32 ≤ length (now w) ⌝ }
     ensures { λ r. ⌜ r ≡ packed (windowed (now (w .entry)) at a0 a1) ⌝ }
 {
-    let b0 = octets::number_at(w, at, 8);
-    let b1 = octets::number_at(w, at + 8, 8);
-    let b2 = octets::number_at(w, at + 16, 8);
-    let b3 = octets::number_at(w, at + 24, 8);
+    let b0 = word_there(w, at);
+    let b1 = word_there(w, at + 8);
+    let b2 = word_there(w, at + 16);
+    let b3 = word_there(w, at + 24);
     Registers {
         a0,
         a1,

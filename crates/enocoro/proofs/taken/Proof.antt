@@ -11,11 +11,11 @@ returns c =
     let p = known .before .args in
     taken-out (p .w .now) (p .at) (p .a0) (p .a1) (omega arith)
     (λ i. omega (arith, known .shared-slice-known .given i))
-    (omega (arith, second .before .number-at .ensures)) (omega (arith, second .number-at2 .ensures))
-    (omega (arith, c .before .number-at3 .ensures)) (omega (arith, c .number-at4 .ensures))
+    (omega (arith, second .before .word-there .ensures)) (omega (arith, second .word-there2 .ensures))
+    (omega (arith, c .before .word-there3 .ensures)) (omega (arith, c .word-there4 .ensures))
 
 pub taken-spec : {M : Type 1} → statement M
 taken-spec =
     tie.close
-    (tie.spec (λ c κs. tt) (λ c. search needs) (λ c κs. tt) (λ c. search needs) (λ c κs. tt) (λ c. search needs)
-    (λ c κs. tt) returns)
+    (tie.spec (λ c κs. omega arith) (λ c. search needs) (λ c κs. omega arith) (λ c. search needs) (λ c κs. omega arith)
+    (λ c. search needs) (λ c κs. omega arith) returns)
