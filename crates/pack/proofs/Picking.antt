@@ -1,17 +1,18 @@
 -- Which cipher a file is under. A file without a fault under a cipher has that cipher's key count, which picks it; and
 -- of a file that ends before its key count no rule that is looked at depends on the cipher, so that bytes behind a file
 -- never change what is said of it by the cipher that they pick.
-use mathlib.Core.{Path._≡_, Path.refl, Path.sym, Path.ap, Path._∙_, Logic._≢_}
+use mathlib.Core.{Path._≡_, Path.refl, Path.sym, Path.ap, Path._∙_, Logic._≢_, Logic._⊎_, Logic.inl, Logic.inr}
+use mathlib.Core.Logic.{⊎-elim}
 use mathlib.Core.{Bool.Bool, Bool.true, Bool.false, List.List, List.[], List._∷_, List._++_}
 use Prim.Native.Nat.{ℕ, suc, _+_, _<_, _≤_}
 use native.Mathlib.Omega.{arith}
-use borrow.Author.Tests.{eq-eqb, ne-eqb, ltb-true, ltb-false}
-use lib.{Dec.ltb, ListN.length, ListN.List·getD-append}
+use borrow.Author.Tests.{eq-eqb, ne-eqb, eqb-true, eqb-false, ltb-true, ltb-false}
+use lib.{Dec.eqb, Dec.ltb, ListN.length, ListN.List·getD-append}
 use Rattle.octets.specs.Stream.{Cipher}
 use Rattle.refusals.specs.Numbers.{cutInKey}
 use Rattle.refusals.specs.Rules.{_endsBefore_, Fault, _says_, AllRight, verdict, reason}
 use Rattle.refusals.proofs.Faults.{Alike, alike-front}
-use Rattle.pack.specs.Ciphers.{cipherOf, countOf, picked, kindIn, cipherIn}
+use Rattle.pack.specs.Ciphers.{cipherOf, countOf, picked, Admitted, kindIn, cipherIn}
 use Rattle.pack.specs.Faults.{nameSectionFaults, faultsFromKey, fileFaults}
 use Rattle.pack.specs.Places.{byteAt, keyPlace}
 use Rattle.pack.specs.{declared.Kind.Kind, declared.Kind.the-variants.Trivium}
@@ -32,6 +33,18 @@ picks-trivium {count} ne = rw (ne-eqb count 9 ne) refl
 own-picked : (kind : Kind) → picked (countOf kind) ≡ kind
 own-picked Trivium = picks-trivium (λ e. omega arith)
 own-picked Enocoro = picks-enocoro refl
+
+-- 11 and 9, and no other count, are the picked cipher's own
+pub admitted : (count : ℕ) → Admitted count
+admitted count = (go (eqb count 9) refl, λ either. ⊎-elim (own Trivium) (own Enocoro) either)
+  where
+    own : (kind : Kind) → count ≡ countOf kind → count ≡ countOf (picked count)
+    own kind e = e ∙ ap countOf (sym (ap picked e ∙ own-picked kind))
+
+    go : (b : Bool) → eqb count 9 ≡ b → count ≡ countOf (picked count)
+        → (count ≡ countOf Trivium) ⊎ (count ≡ countOf Enocoro)
+    go true e h = inr (eqb-true count 9 e)
+    go false e h = inl (h ∙ ap countOf (picks-trivium {count = count} (eqb-false count 9 e)))
 
 -- an initial value has at most ten bytes
 pub short-value : (kind : Kind) → cipherOf kind .valueBytes ≤ 10

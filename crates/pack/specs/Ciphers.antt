@@ -1,7 +1,7 @@
 -- The ciphers that a pack may be under. A file's key count tells which, and sealing is told; each has a ring of four
 -- keys.
 use Prim.Native.Nat.{ℕ, suc}
-use mathlib.Core.{Bool.cond, List.List}
+use mathlib.Core.{Bool.cond, List.List, Logic._⊎_, Path._≡_}
 use lib.Dec.{eqb}
 use Rattle.octets.specs.Stream.{Cipher}
 use Rattle.trivium.specs.Keystream.{trivium}
@@ -21,6 +21,13 @@ countOf kind = suc (cipherOf kind .valueBytes)
 -- the cipher that a key count picks: Enocoro for its own; every other count is held to Trivium's
 unfoldable pub picked : ℕ → Kind
 picked count = cond (eqb count (countOf Enocoro)) Enocoro Trivium
+
+-- so a count that isn't refused, being that of the cipher that it picks, is one of these two; and these are
+abbrev pub Admitted : ℕ → Type 0
+Admitted count =
+    let own = count ≡ countOf (picked count) in
+    let either = (count ≡ countOf Trivium) ⊎ (count ≡ countOf Enocoro) in
+    (own → either) × (either → own)
 
 -- and the one that a file is under
 abbrev pub kindIn : List ℕ → Kind
