@@ -1,6 +1,6 @@
 /*
- * semivrakh.h: sealed sound packs under the stream ciphers Trivium and Enocoro-128v2, and the two ends of the sound link,
- * which is under Trivium.
+ * semivrakh.h: sealed sound packs under the stream ciphers Trivium and Enocoro-128v2, and the two ends of the sound
+ * link, which is under Trivium.
  *
  * Every function below is proved: it takes every input, ends, and answers exactly what its definition says.
  *
@@ -26,6 +26,8 @@
  *     give the keystream away: a pair name is unique under a key. Save a sender's record after each beginning, before
  *     anything is sent; one set back to an older record would use a session again.
  *   - Nothing is wiped: keys stay in the records, and on the stack after a call.
+ *   - Enocoro looks secret bytes up in a table of 256, as its standard has it: whoever can watch the processor's caches
+ *     may learn something of them. No address and no jump of Trivium depends on a secret.
  *
  * docs/FORMATS.md has the pack file, the frames and the records byte by byte, docs/TRUST.md what is proved and what
  * isn't, and semivrakh_words.h the numbers for no in words, with what to do about each.
@@ -71,8 +73,8 @@
  *   A caller holds four keys for each cipher that packs may be under, and lends all of them as one run of 104 bytes:
  *      0  four keys of Trivium, 10 bytes each
  *     40  four keys of Enocoro, 16 bytes each
- *   A pack says by its key count which cipher it is under, 11 for Trivium and 9 for Enocoro, and by its key number which
- *   of that cipher's four keys is its own. Keys that no pack is under may be zeros.
+ *   A pack says by its key count which cipher it is under, 11 for Trivium and 9 for Enocoro, and by its key number
+ *   which of that cipher's four keys is its own. Keys that no pack is under may be zeros.
  *
  * An example: a cipher, and a stream in two calls
  *
