@@ -243,8 +243,8 @@ uint8_t semivrakh_enocoro_encipher(uint8_t *cipher, size_t cipher_length,
  * numbers, SEMIVRAKH_OPENED_.., to the front of `answer`. Lend 16,384 samples, and any pack has room.
  * Samples are -32,767 to 32,767, so each can be negated: a plain word of 80 00 is read as -32,767, as 80 01 is, and is
  * no fault.
- * Refuses, in order: 1 (keys not 104 bytes), what the file has wrong from front to back (11 to 18, and 30 to 33 where it
- * ends inside a section), 19 (too few samples lent for the pack, or fewer than seven numbers).
+ * Refuses, in order: 1 (keys not 104 bytes), what the file has wrong from front to back (11 to 18, and 30 to 33 where
+ * it ends inside a section), 19 (too few samples lent for the pack, or fewer than seven numbers).
  *
  *     int16_t samples[SEMIVRAKH_SAMPLES_MOST];
  *     size_t answer[SEMIVRAKH_OPENED_NUMBERS];
