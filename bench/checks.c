@@ -46,6 +46,48 @@ static void check_own_enocoro(void)
     }
 }
 
+/* Key and nonce are bytes counted from 0, those of the associated data are 7 apart and those of the message 11, from 0
+ * on. The first two are annex A.1 of TRIAD's paper; the others, which end elsewhere in a stride, are of a program that
+ * follows the paper bit by bit. */
+static const struct {
+    size_t associated_count, count;
+    uint8_t last_sealed, tag[SEMIVRAKH_TAG_BYTES];
+} triad_printed[] = {
+    { 0, 0, 0x00, { 0xd1, 0x6d, 0xcc, 0xa6, 0xb3, 0x34, 0xcb, 0x84 } },
+    { 1, 1, 0xf5, { 0xd4, 0x1a, 0xf0, 0x01, 0xd9, 0xd7, 0x53, 0x67 } },
+    { 3, 0, 0x00, { 0x2e, 0x9d, 0xfb, 0xef, 0x6f, 0xf3, 0x7c, 0x78 } },
+    { 0, 5, 0xac, { 0xc2, 0x2e, 0xa3, 0x74, 0x53, 0x08, 0x7e, 0xef } },
+    { 13, 21, 0xd9, { 0xd0, 0x7c, 0x89, 0x06, 0x6d, 0x8c, 0x43, 0x5c } },
+    { 116, 64, 0x52, { 0xf5, 0x97, 0x71, 0xcd, 0x3e, 0xff, 0x38, 0x9f } },
+    { 25, 203, 0xeb, { 0x47, 0x45, 0xc7, 0xe4, 0xf5, 0xa2, 0xb4, 0x6d } },
+};
+
+static void fill(uint8_t *bytes, size_t count, unsigned apart)
+{
+    for (size_t at = 0; at < count; at++)
+        bytes[at] = (uint8_t)(apart * at);
+}
+
+static void check_own_triad(void)
+{
+    uint8_t key[SEMIVRAKH_TRIAD_KEY_BYTES], nonce[SEMIVRAKH_TRIAD_NONCE_BYTES], front[256], message[256];
+    fill(key, sizeof key, 1);
+    fill(nonce, sizeof nonce, 1);
+    fill(front, sizeof front, 7);
+    fill(message, sizeof message, 11);
+    for (size_t at = 0; at < sizeof triad_printed / sizeof *triad_printed; at++) {
+        const size_t count = triad_printed[at].count;
+        struct own_triad own;
+        uint8_t tag[SEMIVRAKH_TAG_BYTES];
+        own_triad_make(&own, key, nonce);
+        own_triad_encipher(&own, message, sealed, count);
+        if (count > 0)
+            same(&sealed[count - 1], &triad_printed[at].last_sealed, 1, "the own C of TRIAD enciphers to other bytes");
+        own_triad_tag(key, nonce, front, triad_printed[at].associated_count, message, count, tag);
+        same(tag, triad_printed[at].tag, sizeof tag, "the own C of TRIAD gives another tag than annex A.1 and beyond");
+    }
+}
+
 /* A cipher's streams: the library's, and one for each engine of the own C. */
 struct streams {
     const struct cipher *cipher;
@@ -107,18 +149,80 @@ static void expect(const struct cipher *cipher, const uint8_t *initial, size_t b
     cipher->engines[0].encipher(&own, plain, expected, bytes);
 }
 
+/* The library's tag of so many bytes against that of each engine. */
+static void check_tag(const struct cipher *cipher, size_t bytes)
+{
+    struct stream stream = stream_of(cipher, bytes), own = stream;
+    struct work tag = library_tag(&stream), own_tag = own_tag_work(&own);
+    tag.once(tag.with);
+    for (own.engine = cipher->engines; own.engine < cipher->engines + cipher->engine_count; own.engine++) {
+        if (own.engine->tag == NULL)
+            continue;
+        own_tag.once(own_tag.with);
+        same(stream.tag, own.tag, sizeof own.tag, "the library gives another tag than the own C");
+    }
+}
+
+static void check_tags(const struct cipher *cipher)
+{
+    for (size_t bytes = 0; bytes < SMALLEST_BYTES; bytes++)
+        check_tag(cipher, bytes);
+    for (size_t bytes = SMALLEST_BYTES; bytes <= LARGEST_BYTES; bytes *= 2)
+        check_tag(cipher, bytes);
+}
+
+/* One bit of the samples is another, and both sides say so. */
+static void check_noticed(struct pack *pack)
+{
+    uint8_t *changed = pack->file + pack->length / 2;
+    size_t answer[SEMIVRAKH_OPENED_NUMBERS];
+    *changed ^= 1;
+    if (pack->engine->open(pack->cipher->key, pack->file, opened))
+        fail("the own C does not notice a change");
+    if (semivrakh_pack_open(pack->file, pack->length, keys, sizeof keys, opened, SEMIVRAKH_SAMPLES_MOST,
+                            answer, SEMIVRAKH_OPENED_NUMBERS) != SEMIVRAKH_WRONG_TAG)
+        fail("the library does not notice a change");
+    *changed ^= 1;
+}
+
+/* A pack with a tag that the library sealed, against each engine: sealed again it is the same, and it opens. */
+static void check_own_pack(struct pack *pack)
+{
+    static uint8_t file[SEMIVRAKH_PACK_MOST];
+    const struct cipher *cipher = pack->cipher;
+    const size_t length = pack->length;
+    struct work seal = own_seal_work(pack), open = own_open_work(pack);
+    memcpy(file, pack->file, length);
+    for (pack->engine = cipher->engines; pack->engine < cipher->engines + cipher->engine_count; pack->engine++) {
+        if (pack->engine->seal == NULL)
+            continue;
+        memset(pack->file, 0, length);
+        seal.once(seal.with);
+        if (pack->length != length)
+            fail("the library seals to another length than the own C");
+        same(pack->file, file, length, "the library seals to another file than the own C");
+        memset(opened, 0, sizeof opened);
+        open.once(open.with);
+        same(opened, samples, SAMPLE_BYTES * pack->sample_count, "the own C opens to other samples");
+        check_noticed(pack);
+    }
+}
+
 static void check_pack(const struct cipher *cipher, size_t sample_bytes)
 {
     struct pack *pack = pack_of(cipher, sample_bytes);
     struct work seal = library_seal(pack), open = library_open(pack);
     expect(cipher, value, sample_bytes);
     seal.once(seal.with);
-    const size_t no_loops = 1; /* the count of loops, the file's last byte */
-    same(pack->file + pack->length - no_loops - sample_bytes, expected, sample_bytes,
+    const size_t no_loops = 1; /* the count of loops */
+    const size_t tag = cipher->tag == NULL ? 0 : 1 + SEMIVRAKH_TAG_BYTES; /* a count and a tag, the file's last bytes */
+    same(pack->file + pack->length - tag - no_loops - sample_bytes, expected, sample_bytes,
          "a sealed pack's samples are not the own C's bytes");
     memset(opened, 0, sizeof opened);
     open.once(open.with);
     same(opened, samples, sample_bytes, "an opened pack's samples are not those that were sealed");
+    if (cipher->tag != NULL)
+        check_own_pack(pack);
 }
 
 static uint32_t number(const uint8_t *bytes)
@@ -152,6 +256,8 @@ static void check_transfer(void)
 static void check_cipher(const struct cipher *cipher)
 {
     check_encipher(cipher);
+    if (cipher->tag != NULL)
+        check_tags(cipher);
     for (size_t bytes = SMALLEST_BYTES; bytes <= LARGEST_PACK_BYTES; bytes *= 2)
         check_pack(cipher, bytes);
 }
@@ -159,6 +265,7 @@ static void check_cipher(const struct cipher *cipher)
 void check_library(void)
 {
     check_own_enocoro();
+    check_own_triad();
     for (size_t at = 0; at < CIPHERS; at++)
         check_cipher(&ciphers[at]);
     check_transfer();
@@ -174,4 +281,21 @@ void check_peer(const struct peer *peer)
     peer->restart();
     peer->encipher(sealed, back, BARE_BYTES);
     same(back, plain, BARE_BYTES, "a peer does not decipher what it enciphered");
+}
+
+void check_tag_peer(const struct tag_peer *peer)
+{
+    static uint8_t back[BARE_BYTES];
+    struct letter letter = { associated, ASSOCIATED_BYTES, plain, sealed, BARE_BYTES, { 0 } };
+    peer->seal(peer->which, &letter);
+    if (memcmp(sealed, plain, BARE_BYTES) == 0)
+        fail("a peer's sealing copies");
+    letter.input = sealed;
+    letter.output = back;
+    if (!peer->open(peer->which, &letter))
+        fail("a peer finds its own tag wrong");
+    same(back, plain, BARE_BYTES, "a peer does not open what it sealed");
+    sealed[0] ^= 1;
+    if (peer->open(peer->which, &letter))
+        fail("a peer does not notice a change");
 }

@@ -9,4 +9,6 @@ void check_library(void);
 
 void check_peer(const struct peer *peer);
 
+void check_tag_peer(const struct tag_peer *peer);
+
 #endif

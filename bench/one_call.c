@@ -8,9 +8,12 @@
 
 enum { BYTES = 2 * SEMIVRAKH_SAMPLES_MOST, NO_SUCH_CALL = 255 };
 
+/* As much as a pack can have: a name of 32 bytes and eight loops. */
+enum { ASSOCIATED_BYTES = SEMIVRAKH_PACK_MOST - BYTES - 1 - SEMIVRAKH_TAG_BYTES };
+
 static uint8_t input[BYTES], output[BYTES], file[SEMIVRAKH_PACK_MOST], record[SEMIVRAKH_CIPHER_BYTES];
 static int16_t samples[SEMIVRAKH_SAMPLES_MOST];
-static const uint8_t keys[SEMIVRAKH_KEYS_BYTES], value[SEMIVRAKH_VALUE_BYTES];
+static const uint8_t keys[SEMIVRAKH_KEYS_BYTES], value[SEMIVRAKH_TRIAD_NONCE_BYTES], associated[ASSOCIATED_BYTES];
 
 static const struct cipher {
     const char *name;
@@ -23,6 +26,8 @@ static const struct cipher {
       semivrakh_cipher_make, semivrakh_cipher_encipher },
     { "Enocoro", SEMIVRAKH_ENOCORO, SEMIVRAKH_ENOCORO_KEY_BYTES, SEMIVRAKH_ENOCORO_VALUE_BYTES, SEMIVRAKH_ENOCORO_BYTES,
       semivrakh_enocoro_make, semivrakh_enocoro_encipher },
+    { "TRIAD", SEMIVRAKH_TRIAD, SEMIVRAKH_TRIAD_KEY_BYTES, SEMIVRAKH_TRIAD_NONCE_BYTES, SEMIVRAKH_TRIAD_BYTES,
+      semivrakh_triad_make, semivrakh_triad_encipher },
 };
 
 static const struct cipher *named(const char *name) {
@@ -39,6 +44,12 @@ static uint8_t encipher(const struct cipher *cipher) {
     return cipher->encipher(record, cipher->record_bytes, input, BYTES, output, BYTES);
 }
 
+/* TRIAD's alone. */
+static uint8_t tag(void) {
+    return semivrakh_triad_tag(keys, SEMIVRAKH_TRIAD_KEY_BYTES, value, SEMIVRAKH_TRIAD_NONCE_BYTES,
+                               associated, sizeof associated, input, BYTES, output, SEMIVRAKH_TAG_BYTES);
+}
+
 static uint8_t seal(const struct cipher *cipher, size_t *length) {
     return semivrakh_pack_seal(NULL, 0, keys, sizeof keys, cipher->number, 0, value, cipher->value_bytes,
                                samples, SEMIVRAKH_SAMPLES_MOST, NULL, 0, file, sizeof file, length);
@@ -53,6 +64,7 @@ static uint8_t open_pack(size_t length) {
 static uint8_t call(const struct cipher *cipher, const char *what, size_t length) {
     if (strcmp(what, "make") == 0) return make(cipher);
     if (strcmp(what, "encipher") == 0) return encipher(cipher);
+    if (strcmp(what, "tag") == 0 && cipher->number == SEMIVRAKH_TRIAD) return tag();
     if (strcmp(what, "open") == 0) return open_pack(length);
     if (strcmp(what, "seal") == 0) return seal(cipher, &length);
     return strcmp(what, "none") == 0 ? SEMIVRAKH_OK : NO_SUCH_CALL;

@@ -17,6 +17,26 @@ typedef void own_encipher(void *cipher, const uint8_t *input, uint8_t *output, s
 /* The registers in the form of the library's record, spare bits zero. */
 typedef void own_record(const void *cipher, uint8_t *record);
 
+/* The tag of associated data and of a message. */
+typedef void own_tag(const uint8_t *key, const uint8_t *value, const uint8_t *associated, size_t associated_count,
+                     const uint8_t *message, size_t count, uint8_t *tag);
+
+/* A sound that is to be a pack with no loops. */
+struct own_sound {
+    const uint8_t *name;
+    size_t name_length;
+    uint8_t key_number;
+    const uint8_t *value;
+    const int16_t *samples;
+    size_t sample_count;
+};
+
+/* The sound as a pack with a tag. Answers the file's length, or 0 if a sample has no opposite, with nothing written. */
+typedef size_t own_seal(const uint8_t *key, const struct own_sound *sound, uint8_t *file);
+
+/* The samples of a pack with a tag. Answers whether the tag is right; if not, nothing is written. */
+typedef int own_open(const uint8_t *key, const uint8_t *file, int16_t *samples);
+
 /* Eight bytes as a word, the first of them the most significant, as the records have them. */
 static inline uint64_t load_word(const uint8_t *bytes)
 {

@@ -1,6 +1,7 @@
 #define _POSIX_C_SOURCE 200809L
 #include "timing.h"
 
+#include <stdint.h>
 #include <stdlib.h>
 #include <time.h>
 
@@ -84,4 +85,23 @@ struct comparison compare(struct work first, struct work second)
         .ratio = least / (other.samples[0] / (double)other.calls),
         .spread = larger(spread(&one, count), spread(&other, count)),
     };
+}
+
+enum { CHAIN = 10000, CYCLES_A_MULTIPLICATION = 3 };
+
+/* Each waits for the one before it, for as many cycles on every x86-64 processor of the last years. What counts the
+ * turns is done meanwhile. */
+static void multiply(void *nothing)
+{
+    uint64_t x = 3;
+    (void)nothing;
+    for (int done = 0; done < CHAIN; done++)
+        __asm__ volatile("imul %0, %0" : "+r"(x));
+}
+
+/* A clock that ticks evenly would not tell: processors go faster and slower than it. */
+double cycles_a_second(void)
+{
+    const struct work chain = { multiply, NULL };
+    return CHAIN * CYCLES_A_MULTIPLICATION / compare(chain, chain).seconds;
 }

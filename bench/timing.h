@@ -15,4 +15,7 @@ struct comparison {
 
 struct comparison compare(struct work first, struct work second);
 
+/* Of the processor, as fast as it runs now. Means something only where nothing is emulated. */
+double cycles_a_second(void);
+
 #endif

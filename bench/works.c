@@ -6,6 +6,7 @@
 const uint8_t pair[SEMIVRAKH_PAIR_BYTES] = { 'd', 'e', 's', 'k', ' ', '1' };
 static const uint8_t name[] = { 'C', 'h', 'o', 'i', 'r' };
 
+const uint8_t associated[ASSOCIATED_BYTES] = { SEMIVRAKH_NAME_MOST, 'C', 'h', 'o', 'i', 'r' };
 uint8_t plain[LARGEST_BYTES];
 uint8_t sealed[LARGEST_BYTES];
 int16_t samples[SEMIVRAKH_SAMPLES_MOST];
@@ -47,10 +48,30 @@ static void make_and_encipher_once(void *stream)
     encipher_once(stream);
 }
 
+static void tag_once(void *with)
+{
+    struct stream *stream = with;
+    const struct cipher *cipher = stream->cipher;
+    accepted(cipher->tag(cipher->key, cipher->key_bytes, value, cipher->value_bytes, associated, sizeof associated,
+                         plain, stream->bytes, stream->tag, sizeof stream->tag));
+}
+
+static void encipher_and_tag_once(void *stream)
+{
+    make_and_encipher_once(stream);
+    tag_once(stream);
+}
+
 static void own_encipher_once(void *with)
 {
     struct stream *stream = with;
-    stream->own(&stream->registers, plain, sealed, stream->bytes);
+    stream->engine->encipher(&stream->registers, plain, sealed, stream->bytes);
+}
+
+static void own_tag_once(void *with)
+{
+    struct stream *stream = with;
+    stream->engine->tag(stream->cipher->key, value, associated, sizeof associated, plain, stream->bytes, stream->tag);
 }
 
 static void open_once(void *with)
@@ -68,6 +89,20 @@ static void seal_once(void *with)
     accepted(semivrakh_pack_seal(name, sizeof name, keys, sizeof keys, cipher->number, KEY_NUMBER,
                                  value, cipher->value_bytes, samples, pack->sample_count, NULL, 0,
                                  pack->file, sizeof pack->file, &pack->length));
+}
+
+static void own_open_once(void *with)
+{
+    const struct pack *pack = with;
+    if (!pack->engine->open(pack->cipher->key, pack->file, opened))
+        fail("the own C finds a wrong tag");
+}
+
+static void own_seal_once(void *with)
+{
+    struct pack *pack = with;
+    const struct own_sound sound = { name, sizeof name, KEY_NUMBER, value, samples, pack->sample_count };
+    pack->length = pack->engine->seal(pack->cipher->key, &sound, pack->file);
 }
 
 static int under_way(void)
@@ -133,7 +168,7 @@ void prepare(void)
 
 struct stream stream_of(const struct cipher *cipher, size_t bytes)
 {
-    struct stream stream = { .cipher = cipher, .bytes = bytes, .own = cipher->engines[0].encipher };
+    struct stream stream = { .cipher = cipher, .bytes = bytes, .engine = cipher->engines };
     make_once(&stream);
     cipher->own_make(&stream.registers, cipher->key, value);
     return stream;
@@ -144,6 +179,7 @@ struct pack *pack_of(const struct cipher *cipher, size_t sample_bytes)
     struct pack *pack = packs[cipher - ciphers];
     for (size_t bytes = SMALLEST_BYTES; bytes < sample_bytes; bytes *= 2)
         pack++;
+    pack->engine = cipher->engines;
     return pack;
 }
 
@@ -153,6 +189,10 @@ struct work library_make(struct stream *stream) { return (struct work){ make_onc
 
 struct work library_make_and_encipher(struct stream *stream) { return (struct work){ make_and_encipher_once, stream }; }
 
+struct work library_tag(struct stream *stream) { return (struct work){ tag_once, stream }; }
+
+struct work library_encipher_and_tag(struct stream *stream) { return (struct work){ encipher_and_tag_once, stream }; }
+
 struct work library_open(struct pack *pack) { return (struct work){ open_once, pack }; }
 
 struct work library_seal(struct pack *pack) { return (struct work){ seal_once, pack }; }
@@ -160,3 +200,9 @@ struct work library_seal(struct pack *pack) { return (struct work){ seal_once, p
 struct work library_transfer(void) { return (struct work){ transfer_once, NULL }; }
 
 struct work own_encipher_work(struct stream *stream) { return (struct work){ own_encipher_once, stream }; }
+
+struct work own_tag_work(struct stream *stream) { return (struct work){ own_tag_once, stream }; }
+
+struct work own_open_work(struct pack *pack) { return (struct work){ own_open_once, pack }; }
+
+struct work own_seal_work(struct pack *pack) { return (struct work){ own_seal_once, pack }; }

@@ -16,24 +16,34 @@ enum {
 
 _Static_assert(SMALLEST_BYTES << (PACK_SIZES - 1) == LARGEST_PACK_BYTES, "one pack size for each doubling");
 
+/* Of a pack with a name of 32 bytes and eight loops: its sections but the samples, which are the most it can have. */
+enum { ASSOCIATED_BYTES = 116 };
+
+_Static_assert(ASSOCIATED_BYTES == SEMIVRAKH_PACK_MOST - LARGEST_PACK_BYTES - 1 - SEMIVRAKH_TAG_BYTES,
+               "the longest pack is these, the samples and the tag section");
+
 extern const uint8_t pair[SEMIVRAKH_PAIR_BYTES];
 
+extern const uint8_t associated[ASSOCIATED_BYTES];
 extern uint8_t plain[LARGEST_BYTES];
 extern uint8_t sealed[LARGEST_BYTES];
 extern int16_t samples[SEMIVRAKH_SAMPLES_MOST]; /* the front of `plain` as sound */
 extern int16_t opened[SEMIVRAKH_SAMPLES_MOST];
 
-/* So many bytes at a time under one cipher. Library and own C each go on in a stream of their own from call to call. */
+/* So many bytes at a time under one cipher. Library and own C each go on in a stream of their own from call to call; a
+ * tag is of all of them anew. */
 struct stream {
     const struct cipher *cipher;
     size_t bytes;
-    own_encipher *own; /* the engine of the own C */
+    const struct engine *engine; /* of the own C */
     uint8_t record[MOST_RECORD_BYTES];
     union own_registers registers;
+    uint8_t tag[SEMIVRAKH_TAG_BYTES];
 };
 
 struct pack {
     const struct cipher *cipher;
+    const struct engine *engine; /* of the own C, if packs have a tag */
     size_t sample_count;
     size_t length;
     uint8_t file[SEMIVRAKH_PACK_MOST];
@@ -60,16 +70,21 @@ void prepare(void);
 /* A stream from its first byte on, by the cipher's first engine. */
 struct stream stream_of(const struct cipher *cipher, size_t bytes);
 
-/* The cipher's pack with so many bytes of samples, one of the PACK_SIZES. */
+/* The cipher's pack with so many bytes of samples, one of the PACK_SIZES, by the cipher's first engine. */
 struct pack *pack_of(const struct cipher *cipher, size_t sample_bytes);
 
 /* What a work is given must live as long as it. */
 struct work library_encipher(struct stream *stream);
 struct work library_make(struct stream *stream);
 struct work library_make_and_encipher(struct stream *stream);
+struct work library_tag(struct stream *stream);
+struct work library_encipher_and_tag(struct stream *stream); /* from key and nonce on: all of an authenticated cipher */
 struct work library_open(struct pack *pack);
 struct work library_seal(struct pack *pack);
 struct work library_transfer(void);
 struct work own_encipher_work(struct stream *stream);
+struct work own_tag_work(struct stream *stream);
+struct work own_open_work(struct pack *pack);
+struct work own_seal_work(struct pack *pack);
 
 #endif

@@ -81,7 +81,7 @@ static inline void write_file(const char *path, const uint8_t *bytes, size_t len
 
 _Noreturn static inline void refused_keys(uint8_t no, const struct file *keys)
 {
-    refused(no, "%s has %zu bytes, and the keys of both ciphers have %d", keys->path, keys->length,
+    refused(no, "%s has %zu bytes, and the keys of all ciphers have %d", keys->path, keys->length,
             SEMIVRAKH_KEYS_BYTES);
 }
 
@@ -95,6 +95,7 @@ struct cipher {
 static const struct cipher ciphers[] = {
     {"trivium", SEMIVRAKH_TRIVIUM, SEMIVRAKH_VALUE_BYTES},
     {"enocoro", SEMIVRAKH_ENOCORO, SEMIVRAKH_ENOCORO_VALUE_BYTES},
+    {"triad", SEMIVRAKH_TRIAD, SEMIVRAKH_TRIAD_NONCE_BYTES},
 };
 
 enum { CIPHERS = sizeof ciphers / sizeof ciphers[0] };

@@ -1,13 +1,14 @@
 /*
  * Opens a sealed pack, under the cipher that it says, and writes its sound as a WAV file: mono, 16 bits, PCM. The
- * pack's loops go to a 'smpl' chunk, where a sampler finds them.
+ * pack's loops go to a 'smpl' chunk, where a sampler finds them. A pack with a tag is opened only if the tag is right,
+ * and before that nothing that the file says of itself is printed.
  */
 #include "files.h"
 
 static const char usage[] =
     "usage: pack_to_wav KEYS PACK OUT.wav [RATE]\n"
-    "  KEYS  a file of 104 bytes: four keys of ten bytes each, for trivium, then four of 16 bytes each, for enocoro.\n"
-    "        The pack says which one it is under; all others may be zeros\n"
+    "  KEYS  a file of 168 bytes: four keys of ten bytes each, for trivium, then four of 16 bytes each, for enocoro,\n"
+    "        and four of 16 bytes each, for triad. The pack says which one it is under; all others may be zeros\n"
     "  RATE  samples a second, 44100 if it is not given: a pack does not say";
 
 enum {
@@ -118,6 +119,15 @@ static const char *cipher_of(const struct file *pack, size_t value_at)
     return ciphers[i].name;
 }
 
+/* The pack is in order as far as it can be seen without keys, and its samples have room. */
+_Noreturn static void refused_opening(uint8_t no, const struct file *keys, const struct file *pack,
+                                      const size_t answer[SEMIVRAKH_OPENED_NUMBERS])
+{
+    if (no != SEMIVRAKH_WRONG_TAG) refused_keys(no, keys);
+    refused(no, "%s has %zu bytes, and another tag than key %zu for %s in %s gives", pack->path, pack->length,
+            answer[SEMIVRAKH_OPENED_KEY], cipher_of(pack, answer[SEMIVRAKH_OPENED_VALUE_AT]), keys->path);
+}
+
 int main(int words, char **word)
 {
     if (words != 4 && words != 5) stop("%s", usage);
@@ -133,7 +143,7 @@ int main(int words, char **word)
     int16_t *samples = room_for(sample_count, sizeof *samples);
     no = semivrakh_pack_open(pack.bytes, pack.length, keys.bytes, keys.length, samples, sample_count, answer,
                              SEMIVRAKH_OPENED_NUMBERS);
-    if (no != SEMIVRAKH_OK) refused_keys(no, &keys); /* the pack is in order and its samples have room */
+    if (no != SEMIVRAKH_OK) refused_opening(no, &keys, &pack, answer);
 
     uint32_t loops[2 * SEMIVRAKH_LOOPS_MOST];
     size_t loop_numbers;

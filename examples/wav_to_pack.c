@@ -1,7 +1,7 @@
 /*
- * Seals the sound of a WAV file, mono, 16 bits, PCM, as a pack under either cipher. The loops of a 'smpl' chunk go with
- * it; the rate does not, for a pack has none. Files of the extensible format are read too, and files that were written
- * to a pipe.
+ * Seals the sound of a WAV file, mono, 16 bits, PCM, as a pack under any of the ciphers; under triad it gets a tag, by
+ * which changes are noticed. The loops of a 'smpl' chunk go with it; the rate does not, for a pack has none. Files of
+ * the extensible format are read too, and files that were written to a pipe.
  *
  * A WAV file may have samples of -32768, and a pack may not: an instrument negates samples, and this one has no
  * opposite. The sound is sealed as it is or not at all, unless the user says --raise.
@@ -9,13 +9,15 @@
 #include "files.h"
 
 static const char usage[] =
-    "usage: wav_to_pack [--cipher trivium|enocoro] [--raise] KEYS KEY_NUMBER VALUE_HEX NAME IN.wav OUT.pack\n"
-    "  --cipher    the cipher that the pack is under, trivium if it is not said\n"
+    "usage: wav_to_pack [--cipher trivium|enocoro|triad] [--raise] KEYS KEY_NUMBER VALUE_HEX NAME IN.wav OUT.pack\n"
+    "  --cipher    the cipher that the pack is under, trivium if it is not said; with triad the pack has a tag, by\n"
+    "              which a change is noticed\n"
     "  --raise     seals samples of -32768, which a pack does not hold, as -32767, and prints how many there were\n"
-    "  KEYS        a file of 104 bytes: four keys of ten bytes each, for trivium, then four of 16 bytes each, for\n"
-    "              enocoro; those that are not used may be zeros\n"
+    "  KEYS        a file of 168 bytes: four keys of ten bytes each, for trivium, then four of 16 bytes each, for\n"
+    "              enocoro, and four of 16 bytes each, for triad; those that are not used may be zeros\n"
     "  KEY_NUMBER  which of the cipher's keys, 0 to 3\n"
-    "  VALUE_HEX   the initial value: for trivium ten bytes as 20 hex digits, for enocoro eight bytes as 16.\n"
+    "  VALUE_HEX   the initial value: for trivium ten bytes as 20 hex digits, for enocoro eight bytes as 16, for\n"
+    "              triad twelve bytes as 24.\n"
     "              It must never be used twice under a key: two packs that share both give their sounds away to\n"
     "              anyone who has the two files\n"
     "  NAME        up to 32 letters, digits, spaces and signs of ASCII";
@@ -227,7 +229,7 @@ static const struct cipher *read_cipher(const char *name)
 {
     for (size_t i = 0; i < CIPHERS; i++)
         if (strcmp(ciphers[i].name, name) == 0) return &ciphers[i];
-    stop("--cipher is trivium or enocoro, not '%s'", name);
+    stop("--cipher is trivium, enocoro or triad, not '%s'", name);
 }
 
 struct options {

@@ -1,6 +1,6 @@
 /*
- * semivrakh.h: sealed sound packs under the stream ciphers Trivium and Enocoro-128v2, and the two ends of the sound
- * link, which is under Trivium.
+ * semivrakh.h: sealed sound packs under the stream ciphers Trivium and Enocoro-128v2, or with a tag under TRIAD-AE, and
+ * the two ends of the sound link, which is under Trivium.
  *
  * Every function below is proved: it takes every input, ends, and answers exactly what its definition says.
  *
@@ -19,15 +19,20 @@
  *
  * What isn't protected
  *
- *   - There is no tag. A flipped bit in a pack's samples, or in a block, opens as good, and a wrong key gives noise and
- *     no refusal. Whoever must notice changes puts a tag around files and frames.
+ *   - Only packs under TRIAD have a tag, by which a changed byte or a wrong key is noticed: opening refuses them with
+ *     38. It is proved that the tag is the paper's, and that it is compared; that nobody finds a right one without the
+ *     key is the cipher's claim. An older pack under the same key is as good as a new one.
+ *   - Under Trivium and Enocoro, and on the link, a flipped bit in the samples, or in a block, is taken as good, and a
+ *     wrong key gives noise and no refusal. Whoever can change a tagged file can also put one of these in its place: if
+ *     only tagged packs are to be played, look at the key count.
  *   - Under one key an initial value is used once. Two packs that share both give away how their sounds differ.
  *   - The link's initial value is the pair name and the session. Two pairs of ends made with one key and one pair name
  *     give the keystream away: a pair name is unique under a key. Save a sender's record after each beginning, before
  *     anything is sent; one set back to an older record would use a session again.
  *   - Nothing is wiped: keys stay in the records, and on the stack after a call.
  *   - Enocoro looks secret bytes up in a table of 256, as its standard has it: whoever can watch the processor's caches
- *     may learn something of them. No address and no jump of Trivium depends on a secret.
+ *     may learn something of them. No address and no jump of Trivium and of TRIAD depends on a secret; that a tag is
+ *     wrong is told, and not where.
  *
  * docs/FORMATS.md has the pack file, the frames and the records byte by byte, docs/TRUST.md what is proved and what
  * isn't, and semivrakh_words.h the numbers for no in words, with what to do about each.
@@ -38,7 +43,8 @@
  *   they hold keys, so keep them as you keep keys. Numbers in them have their most significant byte first. Making
  *   writes a record to the front of any buffer that is long enough; every other call wants exactly the record's length,
  *   and refuses bytes that are no record, enciphering with 3 and the link's calls with 27. A record doesn't say what it
- *   is of: Trivium's and Enocoro's differ in length alone.
+ *   is of: Enocoro's differs from the others in length alone, and Trivium's and TRIAD's not even in that. Lent to the
+ *   other's calls they give a keystream of neither cipher, and no refusal.
  *
  *   Look at what making answers. A refused making leaves the buffer as it was, and what was in it may well be taken for
  *   a record.
@@ -48,6 +54,12 @@
  *   bytes are a cipher, 48 zeros too: their keystream is all zeros, and they encipher nothing.
  *
  *   Enocoro, 34 bytes: the two bytes a, a0 first, then the 32 bytes b, b0 first. Every 34 bytes are such a cipher.
+ *
+ *   TRIAD, 48 bytes: the registers a (80 bits), b (88) and c (88), each as two numbers of 8 bytes, first the one of its
+ *   older bits and then the one of its newer. The newer one has the bits 1 to 64, bit 1, the newest, as its most
+ *   significant; the older one has bit 65 as its most significant, and so on down. The lowest 48 bits of a's older
+ *   number and the lowest 40 of b's and c's are ignored, and come back zero from a call that isn't refused; so every 48
+ *   bytes are such a cipher, and 48 zeros encipher nothing here too. A record is for the keystream; a tag has none.
  *
  *   Sender, 27 bytes:
  *      0  key, 10 bytes
@@ -70,11 +82,12 @@
  *
  * Keys
  *
- *   A caller holds four keys for each cipher that packs may be under, and lends all of them as one run of 104 bytes:
+ *   A caller holds four keys for each cipher that packs may be under, and lends all of them as one run of 168 bytes:
  *      0  four keys of Trivium, 10 bytes each
  *     40  four keys of Enocoro, 16 bytes each
- *   A pack says by its key count which cipher it is under, 11 for Trivium and 9 for Enocoro, and by its key number
- *   which of that cipher's four keys is its own. Keys that no pack is under may be zeros.
+ *    104  four keys of TRIAD, 16 bytes each
+ *   A pack says by its key count which cipher it is under, 11 for Trivium, 9 for Enocoro and 13 for TRIAD, and by its
+ *   key number which of that cipher's four keys is its own. Keys that no pack is under may be zeros.
  *
  * An example: a cipher, and a stream in two calls
  *
@@ -93,23 +106,23 @@
 extern "C" {
 #endif
 
-/* The version of this header, 0.6.0: ten thousand times its first number, a hundred times its second, and its third. */
-#define SEMIVRAKH_VERSION 600
+/* The version of this header, 0.7.0: ten thousand times its first number, a hundred times its second, and its third. */
+#define SEMIVRAKH_VERSION 700
 
 /* The numbers for no. */
 enum {
     SEMIVRAKH_OK = 0,
-    SEMIVRAKH_BAD_KEY = 1,         /* key not 10 bytes, of Enocoro not 16; or all keys not 104 */
-    SEMIVRAKH_BAD_VALUE = 2,       /* initial value not 10 bytes, under Enocoro not 8; or pair name not 6 */
+    SEMIVRAKH_BAD_KEY = 1,         /* key not 10 bytes, of Enocoro and TRIAD not 16; or all keys not 168 */
+    SEMIVRAKH_BAD_VALUE = 2,       /* initial value not 10 bytes, Enocoro's not 8, TRIAD's not 12; or pair name not 6 */
     SEMIVRAKH_NOT_A_CIPHER = 3,    /* cipher record not 48 bytes, of Enocoro not 34 */
     SEMIVRAKH_LONG_NAME = 11,      /* name over 32 bytes */
     SEMIVRAKH_BAD_NAME = 12,       /* a name byte outside 32..126 */
-    SEMIVRAKH_BAD_KEY_COUNT = 13,  /* key count neither 11 nor 9 */
+    SEMIVRAKH_BAD_KEY_COUNT = 13,  /* key count none of 11, 9 and 13 */
     SEMIVRAKH_BAD_KEY_NUMBER = 14, /* key number over 3 */
     SEMIVRAKH_MANY_SAMPLES = 15,   /* over 16,384 samples */
     SEMIVRAKH_MANY_LOOPS = 16,     /* over 8 loops; in sealing also an odd run */
     SEMIVRAKH_BAD_LOOP = 17,       /* a loop's start not below its end, or its end over the sample count */
-    SEMIVRAKH_MORE_BYTES = 18,     /* bytes after the loops */
+    SEMIVRAKH_MORE_BYTES = 18,     /* bytes after the last section */
     SEMIVRAKH_NO_ROOM = 19,        /* a lent output is too short */
     SEMIVRAKH_NO_SESSION = 20,     /* no session number left */
     SEMIVRAKH_LONG_SOUND = 21,     /* sound over 32,768 bytes */
@@ -124,26 +137,33 @@ enum {
     SEMIVRAKH_CUT_IN_SAMPLES = 32, /* file ends inside its sample section */
     SEMIVRAKH_CUT_IN_LOOPS = 33,   /* file ends inside its loop section */
     SEMIVRAKH_LOWEST_SAMPLE = 34,  /* sealing: a sample is -32,768, which has no opposite */
-    SEMIVRAKH_OTHER_LENGTH = 36    /* receiver: opening of its own session with another length */
+    SEMIVRAKH_OTHER_LENGTH = 36,   /* receiver: opening of its own session with another length */
+    SEMIVRAKH_WRONG_TAG = 38,      /* opening: the tag isn't that of the file under its key */
+    SEMIVRAKH_CUT_IN_TAG = 45      /* file ends inside its tag section, or that section's count isn't 8 */
 };
 
 /* Lengths, in bytes unless said otherwise. */
 enum {
     SEMIVRAKH_CIPHER_BYTES = 48,  /* Trivium's record */
     SEMIVRAKH_ENOCORO_BYTES = 34, /* Enocoro's */
+    SEMIVRAKH_TRIAD_BYTES = 48,   /* TRIAD's */
     SEMIVRAKH_SENDER_BYTES = 27,
     SEMIVRAKH_RECEIVER_BYTES = 26,
     SEMIVRAKH_KEY_BYTES = 10,    /* Trivium's, and the link's */
     SEMIVRAKH_VALUE_BYTES = 10,
     SEMIVRAKH_ENOCORO_KEY_BYTES = 16,
     SEMIVRAKH_ENOCORO_VALUE_BYTES = 8,
+    SEMIVRAKH_TRIAD_KEY_BYTES = 16,
+    SEMIVRAKH_TRIAD_NONCE_BYTES = 12, /* a nonce is what an initial value is to the others */
+    SEMIVRAKH_TAG_BYTES = 8,     /* TRIAD's */
     SEMIVRAKH_PAIR_BYTES = 6,
-    SEMIVRAKH_KEYS_BYTES = 104,  /* all keys for packs */
+    SEMIVRAKH_KEYS_BYTES = 168,  /* all keys for packs */
     SEMIVRAKH_ENOCORO_KEYS_AT = 40, /* where those of Enocoro begin among them */
+    SEMIVRAKH_TRIAD_KEYS_AT = 104,  /* and those of TRIAD */
     SEMIVRAKH_NAME_MOST = 32,
     SEMIVRAKH_SAMPLES_MOST = 16384, /* samples */
     SEMIVRAKH_LOOPS_MOST = 8,    /* loops, two numbers each */
-    SEMIVRAKH_PACK_MOST = 32882, /* the longest pack file */
+    SEMIVRAKH_PACK_MOST = 32893, /* the longest pack file, under TRIAD */
     SEMIVRAKH_SOUND_MOST = 32768, /* the longest sound on the link */
     SEMIVRAKH_BLOCK_BYTES = 64,
     SEMIVRAKH_FRAME_MOST = 72,   /* room for any frame of the sender */
@@ -154,7 +174,8 @@ enum {
  * its initial value. */
 enum {
     SEMIVRAKH_TRIVIUM = 11,
-    SEMIVRAKH_ENOCORO = 9
+    SEMIVRAKH_ENOCORO = 9,
+    SEMIVRAKH_TRIAD = 13 /* the one whose packs have a tag */
 };
 
 /* What semivrakh_pack_open and semivrakh_pack_survey answer, by index. Places are indices into the file. */
@@ -239,12 +260,41 @@ uint8_t semivrakh_enocoro_encipher(uint8_t *cipher, size_t cipher_length,
                                    uint8_t *output, size_t output_length);
 
 /*
+ * The same for TRIAD, its keystream TRIAD-SC: a key of 16 bytes and a nonce of 12, and 1,024 blank rounds.
+ * Refuses, in order: 1, 2, 19 (fewer than 48 bytes for the record).
+ */
+uint8_t semivrakh_triad_make(uint8_t *cipher, size_t cipher_length,
+                             const uint8_t *key, size_t key_length,
+                             const uint8_t *nonce, size_t nonce_length);
+
+/* Enciphers, or deciphers, as above. Refuses, in order: 3 (record not 48 bytes), 19 (output shorter than the input). */
+uint8_t semivrakh_triad_encipher(uint8_t *cipher, size_t cipher_length,
+                                 const uint8_t *input, size_t input_length,
+                                 uint8_t *output, size_t output_length);
+
+/*
+ * The tag of TRIAD-AE, its TRIAD-MAC, for associated data and a message, which is plain: 8 bytes to the front of `tag`.
+ * Enciphering and this call, with the same key and nonce, are the whole of TRIAD-AE. Whoever compares tags should look
+ * at all bytes before saying what came of it, as semivrakh_pack_open does.
+ * Refuses, in order: 1 (key not 16 bytes), 2 (nonce not 12), 19 (fewer than 8 bytes for the tag).
+ */
+uint8_t semivrakh_triad_tag(const uint8_t *key, size_t key_length,
+                            const uint8_t *nonce, size_t nonce_length,
+                            const uint8_t *associated, size_t associated_length,
+                            const uint8_t *message, size_t message_length,
+                            uint8_t *tag, size_t tag_length);
+
+/*
  * Opens a pack file under the cipher and the key that it names. Writes the samples to the front of `samples`, and seven
  * numbers, SEMIVRAKH_OPENED_.., to the front of `answer`. Lend 16,384 samples, and any pack has room.
  * Samples are -32,767 to 32,767, so each can be negated: a plain word of 80 00 is read as -32,767, as 80 01 is, and is
  * no fault.
- * Refuses, in order: 1 (keys not 104 bytes), what the file has wrong from front to back (11 to 18, and 30 to 33 where
- * it ends inside a section), 19 (too few samples lent for the pack, or fewer than seven numbers).
+ * A pack under TRIAD is opened exactly if, besides, its tag is that of its own bytes under its key: of all of its
+ * sections but the samples and the tag itself as associated data, and of its plain samples as the message. Otherwise it
+ * is 38, and nothing of its sound is given away.
+ * Refuses, in order: 1 (keys not 168 bytes), what the file has wrong from front to back (11 to 18, 30 to 33 where it
+ * ends inside a section, 45 for the tag's, which is before 18), 38 (wrong tag), 19 (too few samples lent for the pack,
+ * or fewer than seven numbers).
  *
  *     int16_t samples[SEMIVRAKH_SAMPLES_MOST];
  *     size_t answer[SEMIVRAKH_OPENED_NUMBERS];
@@ -259,9 +309,10 @@ uint8_t semivrakh_pack_open(const uint8_t *file, size_t file_length,
 
 /*
  * What a pack file says of itself: the seven numbers that semivrakh_pack_open would answer, given room for the samples.
- * It takes no keys, so a caller can look at a file, allocate, and then open it.
- * Refuses, in order: what the file has wrong from front to back (11 to 18, and 30 to 33 where it ends inside a
- * section), 19 (fewer than seven numbers lent).
+ * It takes no keys, so a caller can look at a file, allocate, and then open it. Without keys it doesn't look at a tag:
+ * what it tells of a pack that opening refuses with 38 may be what somebody put there.
+ * Refuses, in order: what the file has wrong from front to back (11 to 18, 30 to 33 where it ends inside a section, 45
+ * for the tag's), 19 (fewer than seven numbers lent).
  */
 uint8_t semivrakh_pack_survey(const uint8_t *file, size_t file_length,
                               size_t *answer, size_t answer_room);
@@ -269,9 +320,9 @@ uint8_t semivrakh_pack_survey(const uint8_t *file, size_t file_length,
 /*
  * The loops of a pack file, starts and ends in turn, as semivrakh_pack_seal takes them. Writes them to the front of
  * `loops` and how many numbers they are, twice the count of loops, to `*loop_numbers`. Lend 16 numbers, and any pack
- * has room.
- * Refuses, in order: what the file has wrong from front to back (11 to 18, and 30 to 33 where it ends inside a
- * section), 19 (too few numbers lent).
+ * has room. It takes no keys and doesn't look at a tag: open the pack first.
+ * Refuses, in order: what the file has wrong from front to back (11 to 18, 30 to 33 where it ends inside a section, 45
+ * for the tag's), 19 (too few numbers lent).
  */
 uint8_t semivrakh_pack_loops(const uint8_t *file, size_t file_length,
                              uint32_t *loops, size_t loop_room,
@@ -279,7 +330,8 @@ uint8_t semivrakh_pack_loops(const uint8_t *file, size_t file_length,
 
 /*
  * How many bytes a pack file lacks in the section that it ends inside: more than 0 where semivrakh_pack_survey says 30
- * to 33, and 0 for every other file, one in order or one with something else wrong first. It takes no keys, refuses
+ * to 33, or 45 since the file ends inside its tag section, and 0 for every other file: one in order, one with something
+ * else wrong first, or one that is 45 for a count that isn't 8. It takes no keys, doesn't look at the tag, refuses
  * nothing and writes nothing.
  * Each section is a count and what it counts. A file that ends before a count is whole lacks only the count's own
  * bytes, since nobody can tell what would follow: an empty file lacks 1, and one that ends after the first byte of its
@@ -293,15 +345,16 @@ uint8_t semivrakh_pack_loops(const uint8_t *file, size_t file_length,
 size_t semivrakh_pack_lacks(const uint8_t *file, size_t file_length);
 
 /*
- * Seals a sound as a pack file under `cipher`, SEMIVRAKH_TRIVIUM or SEMIVRAKH_ENOCORO, and the key of that cipher that
- * the key number names. The initial value has 10 bytes for Trivium and 8 for Enocoro. `loops` are starts and ends in
- * turn, so `loop_numbers` is twice the count of loops. Writes the file to the front of `output` and its length to
- * `*file_length`. Lend 32,882 bytes, and any pack has room. Never use an initial value twice under one key.
+ * Seals a sound as a pack file under `cipher`, SEMIVRAKH_TRIVIUM, SEMIVRAKH_ENOCORO or SEMIVRAKH_TRIAD, and the key of
+ * that cipher that the key number names. The initial value has 10 bytes for Trivium, 8 for Enocoro and 12 for TRIAD,
+ * under which the pack gets its tag. `loops` are starts and ends in turn, so `loop_numbers` is twice the count of
+ * loops. Writes the file to the front of `output` and its length to `*file_length`. Lend 32,893 bytes, and any pack has
+ * room. Never use an initial value twice under one key.
  * Samples are -32,767 to 32,767: a sound with a sample of -32,768 is refused with 34, wherever it stands.
  * What is sealed opens to itself. An accepted pack that is opened and sealed again, with its own name, cipher, key
  * number, initial value and loops, is the same file if no plain word of it was 80 00; otherwise each of these is 80 01
- * now.
- * Refuses, in order: 1 (keys not 104 bytes), 11, 12, 13 (a cipher that is neither), 2, 14, 15, 34, 16, 17, 19.
+ * now, and a tag is that of the new words.
+ * Refuses, in order: 1 (keys not 168 bytes), 11, 12, 13 (a cipher that is none of these), 2, 14, 15, 34, 16, 17, 19.
  *
  *     uint8_t file[SEMIVRAKH_PACK_MOST];
  *     size_t length;
@@ -357,7 +410,7 @@ uint8_t semivrakh_pack_seal(const uint8_t *name, size_t name_length,
  * record. A sender made anew begins with session 1, one set back with a session that was used before. A receiver that
  * was kept refuses its openings with 25 if their session is below its own, and with 36 if it is its own and the sound
  * has another length (with the same length nobody can tell). Then both ends are made anew, under another pair name.
- * The longest pack, 32,882 bytes, is longer than the longest sound.
+ * The longest pack, 32,893 bytes, is longer than the longest sound.
  */
 
 /* Makes a sender, idle, at the front of `sender`. Refuses, in order: 1, 2, 19 (fewer than 27 bytes for the record). */

@@ -12,17 +12,17 @@
 /* ROW(number, words, advice) */
 #define SEMIVRAKH_WORDS_TABLE(ROW) \
     ROW(0, "not refused", "go on") \
-    ROW(1, "a key has not its cipher's length (10 bytes, 16 for Enocoro), or all keys not 104", "lend the whole key, or all keys, and no more") \
-    ROW(2, "an initial value has not its cipher's length (10 bytes, 8 for Enocoro), or a pair name not 6", "lend all of it, and no more") \
+    ROW(1, "a key has not its cipher's length (10 bytes, 16 for Enocoro and TRIAD), or all keys not 168", "lend the whole key, or all keys, and no more") \
+    ROW(2, "an initial value has not its cipher's length (10 bytes, 8 for Enocoro, 12 for TRIAD), or a pair name not 6", "lend all of it, and no more") \
     ROW(3, "a cipher record has not its length (48 bytes, 34 for Enocoro)", "lend the bytes that making wrote, all of them, to the calls of the same cipher") \
     ROW(11, "the name is over 32 bytes long", "opening: this is no pack, or a damaged one; sealing: shorten the name") \
     ROW(12, "the name has a byte that is not printable ASCII", "opening: the file is damaged; sealing: use bytes 32 to 126 only") \
-    ROW(13, "the key count is neither 11 nor 9", "opening: this is no pack, or a damaged one; sealing: name the cipher by 11, Trivium, or 9, Enocoro") \
+    ROW(13, "the key count is none of 11, 9 and 13", "opening: this is no pack, or a damaged one; sealing: name the cipher by 11, Trivium, 9, Enocoro, or 13, TRIAD") \
     ROW(14, "the key number is over 3", "opening: the file is damaged; sealing: name one of the keys 0 to 3") \
     ROW(15, "there are more than 16,384 samples", "opening: the file is damaged; sealing: cut the sound") \
     ROW(16, "there are more than 8 loops, or a loop has no end", "opening: the file is damaged; sealing: lend two numbers a loop, 16 at most") \
     ROW(17, "a loop is empty or ends after the samples", "opening: the file is damaged; sealing: mend the loop") \
-    ROW(18, "there are bytes after the loops", "get the file again: it is damaged, or something was added to it") \
+    ROW(18, "there are bytes after the last section", "get the file again: it is damaged, or something was added to it") \
     ROW(19, "a lent buffer is too short", "lend more room and call again") \
     ROW(20, "no session number is left", "pair both ends anew, under another pair name") \
     ROW(21, "the sound is over 32,768 bytes long", "send it as two sounds, or a shorter one") \
@@ -37,7 +37,9 @@
     ROW(32, "the file ends inside its sample section", "get the file again: it was cut short") \
     ROW(33, "the file ends inside its loop section", "get the file again: it was cut short") \
     ROW(34, "a sample is -32,768, which has no opposite", "raise each such sample to -32,767, which nobody hears; wav_to_pack does it with --raise") \
-    ROW(36, "an opening of the session in hand names another length", "keep what is held; the sender was set back or made anew: pair both ends anew")
+    ROW(36, "an opening of the session in hand names another length", "keep what is held; the sender was set back or made anew: pair both ends anew") \
+    ROW(38, "the tag is not that of the file under its key", "do not play it: it was changed, or sealed under another key; get it again from whoever sealed it") \
+    ROW(45, "the file ends inside its tag section, or that section's count is not 8", "get the file again: it was cut short or is damaged")
 
 /* The refusal in words. A number that no call answers is called so. */
 static inline const char *semivrakh_words(unsigned number)

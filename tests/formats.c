@@ -12,7 +12,7 @@
 #include "semivrakh.h"
 #include "semivrakh_words.h"
 
-enum { BLOCKS_MOST = 200, BYTES_MOST = 128, LINE_MOST = 512, SOUND_BYTES = 65 };
+enum { BLOCKS_MOST = 300, BYTES_MOST = 192, LINE_MOST = 1024, SOUND_BYTES = 65 };
 
 struct block {
     char label[LINE_MOST];
@@ -114,6 +114,12 @@ static const struct cipher enocoro = {
     "enocoro value", "record enocoro", "enocoro keystream", "enocoro enciphered", "enocoro file", "enocoro cut to"
 };
 
+static const struct cipher triad = {
+    SEMIVRAKH_TRIAD, semivrakh_triad_make, semivrakh_triad_encipher,
+    SEMIVRAKH_TRIAD_BYTES, SEMIVRAKH_TRIAD_KEY_BYTES, SEMIVRAKH_TRIAD_KEYS_AT, 28,
+    "triad value", "record triad", "triad keystream", "triad enciphered", "triad file", "triad cut to"
+};
+
 static void make(const char *label, const struct cipher *cipher, uint8_t record[BYTES_MOST], const uint8_t *key,
                  const uint8_t *value, size_t value_length) {
     accepted(label, cipher->make(record, BYTES_MOST, key, cipher->key_bytes, value, value_length));
@@ -128,7 +134,7 @@ static void covered(const char *label, const struct cipher *cipher, const uint8_
     same(label, output, length);
 }
 
-/* A block of the standard's annex: a key, an initial value, and the first bytes of their keystream. */
+/* A block of the standard's annex: a key of Enocoro, an initial value, and the first bytes of their keystream. */
 static void annex(const char *label) {
     enum { KEY = SEMIVRAKH_ENOCORO_KEY_BYTES, VALUE = SEMIVRAKH_ENOCORO_VALUE_BYTES, STREAM = 32 };
     static const uint8_t zeros[STREAM];
@@ -138,6 +144,22 @@ static void annex(const char *label) {
     make(label, &enocoro, record, made, made + KEY, VALUE);
     accepted(label, enocoro.encipher(record, enocoro.record_bytes, zeros, STREAM, made + KEY + VALUE, STREAM));
     same(label, made, sizeof made);
+}
+
+/* A block of TRIAD's annex: a key, a nonce, and so many zeros as the message under the keystream, with their tag behind
+ * them, where the associated data are as many zeros. */
+static void annex_tag(const char *label, size_t length) {
+    enum { KEY = SEMIVRAKH_TRIAD_KEY_BYTES, NONCE = SEMIVRAKH_TRIAD_NONCE_BYTES, MOST = 1 };
+    static const uint8_t zeros[MOST];
+    uint8_t record[BYTES_MOST], made[KEY + NONCE + MOST + SEMIVRAKH_TAG_BYTES];
+    uint8_t *key = made, *nonce = key + KEY, *covered_zeros = nonce + NONCE, *tag = covered_zeros + length;
+    const struct block *said = block(label);
+    memcpy(made, said->bytes, KEY + NONCE);
+    make(label, &triad, record, key, nonce, NONCE);
+    accepted(label, triad.encipher(record, triad.record_bytes, zeros, length, covered_zeros, length));
+    accepted(label, semivrakh_triad_tag(key, KEY, nonce, NONCE, zeros, length, zeros, length, tag,
+                                        SEMIVRAKH_TAG_BYTES));
+    same(label, made, KEY + NONCE + length + SEMIVRAKH_TAG_BYTES);
 }
 
 static void annex_record(const char *label, const char *of) {
@@ -153,6 +175,8 @@ static void annex_blocks(void) {
     annex("annex B.1, third");
     annex("annex B.1, fourth");
     annex_record("record enocoro of the annex", "annex B.1, fourth");
+    annex_tag("annex A.1, first", 0);
+    annex_tag("annex A.1, second", 1);
 }
 
 /* The pack */
@@ -213,6 +237,10 @@ static void lowest_word(void) {
     pack_sealed("pack raised word", &trivium, raised);
     seal("pack lowest word", SEMIVRAKH_LOWEST_SAMPLE, &trivium, SEMIVRAKH_TRIVIUM, lowest, file);
     seal("pack lowest word", SEMIVRAKH_LOWEST_SAMPLE, &enocoro, SEMIVRAKH_ENOCORO, lowest, file);
+    pack_opened("triad lowest word", &triad, raised);
+    pack_opened("triad raised word", &triad, raised);
+    pack_sealed("triad raised word", &triad, raised);
+    seal("triad lowest word", SEMIVRAKH_LOWEST_SAMPLE, &triad, SEMIVRAKH_TRIAD, lowest, file);
 }
 
 /* The front of a cipher's file, of so many bytes, is refused as the paper's table says. */
@@ -254,6 +282,35 @@ static void fronts_shown(void) {
     front_shown("pack cut in a body", SEMIVRAKH_CUT_IN_SAMPLES, 4);
 }
 
+/* The tag of the example: that of the data that the paper names, and these are the file but for its samples and tag. */
+static void tag_shown(void) {
+    const struct block *value = block(triad.value), *data = block("triad associated"), *words = block("pack words");
+    const struct block *file = block(triad.file), *tag = block("triad tag");
+    const uint8_t *key = block("pack keys")->bytes + key_at(&triad);
+    uint8_t made[SEMIVRAKH_TAG_BYTES];
+    accepted(tag->label, semivrakh_triad_tag(key, triad.key_bytes, value->bytes, value->length, data->bytes,
+                                             data->length, words->bytes, words->length, made, sizeof made));
+    same(tag->label, made, sizeof made);
+    size_t loop_section = 1 + 8, front = data->length - loop_section, behind = front + words->length;
+    holds(data->label, behind + loop_section + 1 + sizeof made == file->length);
+    holds(data->label, memcmp(data->bytes, file->bytes, front) == 0);
+    holds(data->label, memcmp(data->bytes + front, file->bytes + behind, loop_section) == 0);
+    holds(tag->label, memcmp(made, file->bytes + file->length - sizeof made, sizeof made) == 0);
+}
+
+/* A file of the example whose tag isn't its own: nobody can tell without keys. */
+static void tag_refused(void) {
+    static const char label[] = "triad changed";
+    const struct block *file = block(label);
+    size_t answer[SEMIVRAKH_OPENED_NUMBERS], loop_numbers = 0;
+    uint32_t read[2];
+    pack_refused(label, SEMIVRAKH_WRONG_TAG, 0);
+    accepted(label, semivrakh_pack_survey(file->bytes, file->length, answer, SEMIVRAKH_OPENED_NUMBERS));
+    accepted(label, semivrakh_pack_loops(file->bytes, file->length, read, 2, &loop_numbers));
+    holds(label, loop_numbers == 2 && memcmp(read, loops, sizeof loops) == 0);
+    pack_refused("triad of another count", SEMIVRAKH_CUT_IN_TAG, 0);
+}
+
 /* A key count that is no cipher's, in a file and told to sealing. */
 static void no_cipher(void) {
     static const char label[] = "pack of no cipher";
@@ -286,6 +343,9 @@ static void pack(void) {
     same("pack words", words, sizeof words);
     pack_under(&trivium);
     pack_under(&enocoro);
+    pack_under(&triad);
+    tag_shown();
+    tag_refused();
     lowest_word();
     fronts_shown();
     no_cipher();

@@ -35,17 +35,24 @@ static uint8_t compare_make(enum call call, maker *const makers[SIDES], struct r
 }
 
 enum call making_call(unsigned which) {
-    return which == MODEL_TRIVIUM ? CIPHER_MAKE : ENOCORO_MAKE;
+    static const enum call calls[MODEL_CIPHERS] = {
+        [MODEL_TRIVIUM] = CIPHER_MAKE, [MODEL_ENOCORO] = ENOCORO_MAKE, [MODEL_TRIAD] = TRIAD_MAKE,
+    };
+    return calls[which];
 }
 
 enum call enciphering_call(unsigned which) {
-    return which == MODEL_TRIVIUM ? CIPHER_ENCIPHER : ENOCORO_ENCIPHER;
+    static const enum call calls[MODEL_CIPHERS] = {
+        [MODEL_TRIVIUM] = CIPHER_ENCIPHER, [MODEL_ENOCORO] = ENOCORO_ENCIPHER, [MODEL_TRIAD] = TRIAD_ENCIPHER,
+    };
+    return calls[which];
 }
 
 uint8_t compare_cipher_make(unsigned which, struct run cipher, struct run key, struct run value) {
     static maker *const makers[MODEL_CIPHERS][SIDES] = {
         [MODEL_TRIVIUM] = {semivrakh_cipher_make, model_cipher_make},
         [MODEL_ENOCORO] = {semivrakh_enocoro_make, model_enocoro_make},
+        [MODEL_TRIAD] = {semivrakh_triad_make, model_triad_make},
     };
     return compare_make(making_call(which), makers[which], cipher, key, value);
 }
@@ -94,6 +101,7 @@ uint8_t compare_cipher_encipher(unsigned which, struct run cipher, struct run in
     static encipherer *const encipherers[MODEL_CIPHERS][SIDES] = {
         [MODEL_TRIVIUM] = {semivrakh_cipher_encipher, model_cipher_encipher},
         [MODEL_ENOCORO] = {semivrakh_enocoro_encipher, model_enocoro_encipher},
+        [MODEL_TRIAD] = {semivrakh_triad_encipher, model_triad_encipher},
     };
     uint8_t numbers[SIDES];
     lend_all((struct lending[]){to_write("cipher", cipher), to_read("input", input), to_write("output", output)}, 3);
@@ -102,6 +110,21 @@ uint8_t compare_cipher_encipher(unsigned which, struct run cipher, struct run in
                                                  lent(side, 2), output.count);
     }
     return settle(enciphering_call(which), numbers);
+}
+
+typedef uint8_t tagger(const uint8_t *, size_t, const uint8_t *, size_t, const uint8_t *, size_t,
+                       const uint8_t *, size_t, uint8_t *, size_t);
+
+uint8_t compare_triad_tag(struct run key, struct run nonce, struct run associated, struct run message, struct run tag) {
+    static tagger *const taggers[SIDES] = {semivrakh_triad_tag, model_triad_tag};
+    uint8_t numbers[SIDES];
+    lend_all((struct lending[]){to_read("key", key), to_read("nonce", nonce), to_read("associated", associated),
+                                to_read("message", message), to_write("tag", tag)}, 5);
+    for (enum side side = LIBRARY; side < SIDES; side++) {
+        numbers[side] = taggers[side](lent(side, 0), key.count, lent(side, 1), nonce.count, lent(side, 2),
+                                      associated.count, lent(side, 3), message.count, lent(side, TAGGED), tag.count);
+    }
+    return settle(TRIAD_TAG, numbers);
 }
 
 uint8_t compare_pack_open(struct run file, struct run keys, struct run samples, struct run answer) {

@@ -22,11 +22,14 @@ static inline struct run room(size_t count) {
     return (struct run){NULL, count};
 }
 
-/* The calls of a cipher, `which` being MODEL_TRIVIUM or MODEL_ENOCORO, and their names in the header. */
+/* The calls of a cipher, `which` being one of MODEL_CIPHERS, and their names in the header. */
 enum call making_call(unsigned which);
 enum call enciphering_call(unsigned which);
 uint8_t compare_cipher_make(unsigned which, struct run cipher, struct run key, struct run value);
 uint8_t compare_cipher_encipher(unsigned which, struct run cipher, struct run input, struct run output);
+/* After it, the tag has index TAGGED. */
+enum { TAGGED = 4 };
+uint8_t compare_triad_tag(struct run key, struct run nonce, struct run associated, struct run message, struct run tag);
 uint8_t compare_pack_open(struct run file, struct run keys, struct run samples, struct run answer);
 uint8_t compare_pack_survey(struct run file, struct run answer);
 uint8_t compare_pack_loops(struct run file, struct run loops);

@@ -4,9 +4,9 @@
  *   compare (--short | --long) [--seed N] [--broken WHAT]
  *
  * It prints the seed, a table of the answers by call and number, how often packs were under each cipher, how often a
- * file was cut where, where lowest samples and words stood, and the count of comparisons. It ends with 1 at the first
- * difference, or if one of these didn't come often enough. --broken spoils the model, so that the comparison must fail:
- * it is the test of this test. The words for it stand in `breakings`.
+ * file was cut where, where tagged files were damaged, where lowest samples and words stood, and the count of
+ * comparisons. It ends with 1 at the first difference, or if one of these didn't come often enough. --broken spoils the
+ * model, so that the comparison must fail: it is the test of this test. The words for it stand in `breakings`.
  */
 #include <inttypes.h>
 #include <stdio.h>
@@ -21,12 +21,12 @@
 
 struct size {
     uint64_t comparisons;        /* at least */
-    uint64_t each_number;        /* over all calls, at least; and each cipher, cut, and place of a lowest sample */
+    uint64_t each_number;        /* over all calls, at least; and each cipher, cut, damage and place of a sample */
     uint64_t each_number_a_call; /* for a call that lists it, at least */
 };
 
-static const struct size short_run = {100000, 100, 1};
-static const struct size long_run = {5100000, 100, 100};
+static const struct size short_run = {140000, 100, 1};
+static const struct size long_run = {7100000, 100, 100};
 
 static void (*const families[])(void) = {
     making_ciphers,      enciphering,       streams_in_pieces,    damaged_ciphers, random_cipher_input,
@@ -34,17 +34,37 @@ static void (*const families[])(void) = {
     packs_of_all_shapes, large_packs,       making_ends,          beginning,       sending,
     sender_hearing,      receiver_hearing,  asking_ends,          damaged_sender,  damaged_receiver,
     random_link_input,   whole_transfers,   some_records_at_the_edges,
-    sealing_lowest_samples,                 opening_lowest_words, packs_under_the_other_count,
+    sealing_lowest_samples,                 opening_lowest_words, packs_under_another_count,
+    tagging_bytes,       damaged_tagged_packs, refusing_keys_of_packs,
 };
 
 enum { FAMILIES = sizeof families / sizeof *families };
 
-static void break_tap(void) {
-    struct model_taps *taps = &model_rules.taps[random_below(MODEL_REGISTERS)];
+static void break_tap_of(struct model_taps all[MODEL_REGISTERS]) {
+    struct model_taps *taps = &all[random_below(MODEL_REGISTERS)];
     unsigned *each[] = {&taps->near, &taps->oldest, &taps->factor, &taps->other_factor, &taps->own};
     unsigned *tap = each[random_below(sizeof each / sizeof *each)];
     printf("broken on purpose: the model reads %u bits back where it should read %u\n", *tap - 1, *tap);
     (*tap)--;
+}
+
+static void break_tap(void) {
+    break_tap_of(model_rules.taps);
+}
+
+static void break_triad(void) {
+    break_tap_of(model_rules.triad_taps);
+}
+
+/* What a tag is of, or how much of it is compared. */
+static void break_tag(void) {
+    if (random_once_in(2)) {
+        printf("broken on purpose: the model leaves the loops out of the associated data\n");
+        model_rules.loops_tagged = false;
+    } else {
+        printf("broken on purpose: the model doesn't look at a tag's last byte\n");
+        model_rules.tag_compared--;
+    }
 }
 
 /* Two entries of the small box change places, so that it is a permutation still; or another byte goes through it. */
@@ -128,6 +148,9 @@ static const struct {
     {"box_vector", true, break_box},
     {"box", false, break_box},
     {"refusal", false, break_refusal},
+    {"triad_vector", true, break_triad},
+    {"triad", false, break_triad},
+    {"tag", false, break_tag},
     {"lack", false, break_lack},
     {"lowest", false, break_lowest},
 };
@@ -165,6 +188,7 @@ int main(int count, char **words) {
     break_if(options.broken, false);
 
     all_records_at_the_edges();
+    all_splits_of_tagged_bytes();
     for (int family = 0; family < FAMILIES || comparisons_made() < size->comparisons; family++) {
         families[family % FAMILIES]();
     }
@@ -172,6 +196,7 @@ int main(int count, char **words) {
     enough &= numbers_often_enough(size);
     enough &= ciphers_often_enough(size->each_number);
     enough &= cuts_often_enough(size->each_number);
+    enough &= tags_often_enough(size->each_number);
     enough &= lowest_often_enough(size->each_number);
     if (!enough) return 1;
     printf("compare: %" PRIu64 " comparisons, no difference\n", comparisons_made());

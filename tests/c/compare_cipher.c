@@ -7,8 +7,9 @@
 #include "model.h"
 #include "random.h"
 
-/* The longest record and key of a cipher: lengths go beyond, so each cipher is lent those of the other too. */
+/* The longest record and key of a cipher: lengths go beyond, so each cipher is lent those of the others too. */
 enum { STREAM_MOST = 6000, RECORD_MOST = 48, KEY_MOST = 16 };
+enum { TAG_BYTES = 8 };
 
 /* The ciphers have the same calls, and each family goes through them: this is the one that it is at. */
 static unsigned which;
@@ -141,4 +142,60 @@ static void encipher_random_input(void) {
 
 void random_cipher_input(void) {
     with_each_cipher(encipher_random_input);
+}
+
+/* Tags */
+
+static const struct model_cipher *const tagging = &model_ciphers[MODEL_TRIAD];
+
+static void tag_with(faults set) {
+    size_t key_length = has(set, 1) ? wrong_length(tagging->key_bytes) : tagging->key_bytes;
+    size_t nonce_length = has(set, 2) ? wrong_length(tagging->value_bytes) : tagging->value_bytes;
+    plan_first(TRIAD_TAG, set);
+    compare_triad_tag(room(key_length), room(nonce_length), room(random_below(20)), room(random_below(20)),
+                      room(enough_but_for(set, TAG_BYTES)));
+}
+
+static const uint8_t *tag_of(struct run key, struct run nonce, struct run associated, struct run message) {
+    plan_number(0);
+    compare_triad_tag(key, nonce, associated, message, room(enough(TAG_BYTES)));
+    return after(TAGGED);
+}
+
+/* The same bytes, cut at each place into associated data and a message: the library and the model agree on each, and no
+ * cut gives the tag of the one before. */
+static void tag_each_split_of(size_t length) {
+    uint8_t key[KEY_MOST], nonce[KEY_MOST], last[TAG_BYTES];
+    const uint8_t *bytes = noise(length);
+    memcpy(key, noise(sizeof key), sizeof key);
+    memcpy(nonce, noise(sizeof nonce), sizeof nonce);
+    for (size_t cut = 0; cut <= length; cut++) {
+        const uint8_t *tag = tag_of(run_of(key, tagging->key_bytes), run_of(nonce, tagging->value_bytes),
+                                    run_of(bytes, cut), run_of(bytes + cut, length - cut));
+        if (cut > 0 && memcmp(tag, last, TAG_BYTES) == 0) differ("two cuts of %zu bytes have the same tag", length);
+        memcpy(last, tag, TAG_BYTES);
+    }
+}
+
+/* Eight bytes may be taken in at once, and those of the length stand between data and message. That is no rule of the
+ * paper, so all sizes up to some eights come, in every split. */
+void all_splits_of_tagged_bytes(void) {
+    for (size_t length = 0; length <= 40; length++) tag_each_split_of(length);
+}
+
+/* The length of the associated data in two bytes and more. */
+static void tag_long_run(void) {
+    size_t associated = random_between(200, 70000), message = random_below(300);
+    if (random_once_in(2)) associated = 250 + random_below(12);
+    tag_of(room(tagging->key_bytes), room(tagging->value_bytes), room(associated), room(message));
+}
+
+void tagging_bytes(void) {
+    with_each_fault_set(TRIAD_TAG, 0, tag_with);
+    tag_each_split_of(random_below(60));
+    if (random_once_in(4)) tag_long_run();
+    for (int i = 0; i < 10; i++) {
+        compare_triad_tag(room(length_near(tagging->key_bytes)), room(length_near(tagging->value_bytes)),
+                          room(random_below(70)), room(random_below(70)), room(random_below(2 * TAG_BYTES)));
+    }
 }

@@ -9,40 +9,51 @@
 #include "model.h"
 #include "random.h"
 
-enum { NAME_ROOM = 256, LOOPS_ROOM = 256, EXTRA_MOST = 40, VALUE_MOST = 10 };
+enum { NAME_ROOM = 256, LOOPS_ROOM = 256, EXTRA_MOST = 40, VALUE_MOST = 12, TAG_BYTES = 8 };
 /* All keys; and room for a length of keys that is wrong and far above. */
-enum { KEYS_BYTES = SEMIVRAKH_KEYS_BYTES, KEYS_ROOM = KEYS_BYTES + 300 };
+enum { KEYS = 4, KEYS_BYTES = SEMIVRAKH_KEYS_BYTES, KEYS_ROOM = KEYS_BYTES + 300 };
 enum { LOWEST_SAMPLE = -32768, LOWEST_WORD = 0x8000, WORD_ABOVE = 0x8001 };
 enum { SAMPLES_ROOM = SEMIVRAKH_SAMPLES_MOST + EXTRA_MOST };
-enum { FILE_ROOM = 1 + NAME_ROOM + 2 + VALUE_MOST + 4 + 2 * SAMPLES_ROOM + 1 + 8 * LOOPS_ROOM + EXTRA_MOST };
+/* A file without its samples, and one with them. */
+enum { REST_ROOM = 1 + NAME_ROOM + 2 + VALUE_MOST + 4 + 1 + 8 * LOOPS_ROOM + 1 + TAG_BYTES + EXTRA_MOST };
+enum { FILE_ROOM = REST_ROOM + 2 * SAMPLES_ROOM };
 
 /* The parts of a pack, in rule or not. */
 struct parts {
     uint8_t name[NAME_ROOM];
     size_t name_length;
-    unsigned cipher; /* MODEL_TRIVIUM or MODEL_ENOCORO */
+    unsigned cipher; /* one of MODEL_CIPHERS */
     uint8_t key_count, key_number, value[VALUE_MOST];
     uint32_t claimed_samples; /* what the count says */
     size_t samples;           /* how many follow */
     uint32_t loops[2 * LOOPS_ROOM];
     size_t loop_numbers;
+    uint8_t tag_count; /* what the count of a tag says */
     size_t extra;
 };
 
 static struct parts parts;
+static uint8_t keys[KEYS_ROOM]; /* what a file of the parts is under */
 static uint8_t file[FILE_ROOM];
 static size_t file_length;
 static size_t opened[SEMIVRAKH_OPENED_NUMBERS]; /* what the last accepted opening answered */
 
-/* A file in pieces: of each section its count and then its body. */
-enum { PIECES = 8, SECTIONS = PIECES / 2, SAMPLE_COUNT = 4 };
+/* A file in pieces: of each section its count and then its body. The last two only some ciphers have. */
+enum { NAME_COUNT, NAME, KEY_COUNT, KEY, SAMPLE_COUNT, SAMPLES, LOOP_COUNT, LOOPS, TAG_COUNT, TAG, PIECES };
+enum { SECTIONS = PIECES / 2, TAG_SECTION = TAG_COUNT / 2 };
 static const char *const piece_names[PIECES] = {
-    "name count", "name", "key count", "key", "sample count", "samples", "loop count", "loops",
+    "name count", "name", "key count", "key", "sample count", "samples", "loop count", "loops", "tag count", "tag",
 };
 static uint64_t times_cut[PIECES];
 
-/* How often a pack under each cipher was opened, and how often one was sealed. */
+/* How often a pack under each cipher was opened, and how often one was sealed; and how often the parts of one were
+ * refused for another key count, and for an initial value of another length. */
 static uint64_t times_opened[MODEL_CIPHERS], times_sealed[MODEL_CIPHERS];
+static uint64_t times_not_counted[MODEL_CIPHERS], times_not_valued[MODEL_CIPHERS];
+
+/* Of tagged packs with one bit turned in each piece: how often so, and how often that was told by the tag alone. How
+ * often a bit of the key was turned, and how often a tag's count was another. */
+static uint64_t times_damaged[PIECES], times_told_by_tag[PIECES], times_other_key, times_other_tag_count;
 
 /* The sound to be sealed, or the last one opened. No sample is the lowest unless it is put there. */
 static int16_t sound[SAMPLES_ROOM];
@@ -78,20 +89,23 @@ static const struct model_cipher *cipher(void) {
     return &model_ciphers[parts.cipher];
 }
 
+/* Any other than that. */
 static const struct model_cipher *other_cipher(void) {
-    return &model_ciphers[parts.cipher == MODEL_TRIVIUM ? MODEL_ENOCORO : MODEL_TRIVIUM];
+    return &model_ciphers[(parts.cipher + random_between(1, MODEL_CIPHERS - 1)) % MODEL_CIPHERS];
 }
 
-static void choose_key(void) {
-    parts.cipher = random_below(MODEL_CIPHERS);
+static void choose_key(unsigned which) {
+    parts.cipher = which;
     parts.key_count = cipher()->key_count;
-    parts.key_number = (uint8_t)random_below(4);
+    parts.key_number = (uint8_t)random_below(KEYS);
+    parts.tag_count = (uint8_t)cipher()->tag_bytes;
     memcpy(parts.value, noise(VALUE_MOST), VALUE_MOST);
+    memcpy(keys, noise(sizeof keys), sizeof keys);
 }
 
 static void choose_parts(size_t name_length, size_t samples, size_t loops) {
     choose_name(name_length);
-    choose_key();
+    choose_key(random_below(MODEL_CIPHERS));
     parts.claimed_samples = (uint32_t)samples;
     parts.samples = samples;
     choose_loops(samples == 0 ? 0 : 2 * loops, (uint32_t)samples);
@@ -108,27 +122,27 @@ static void spoil_name(void) {
     parts.name[place] = outside[random_below(sizeof outside)];
 }
 
-/* A key count of no cipher, often one beside the two. */
+/* A key count of no cipher, often one beside those that are. */
 static void spoil_key_count(void) {
-    static const uint8_t beside[] = {8, 10, 12};
+    static const uint8_t beside[] = {8, 10, 12, 14};
     parts.key_count = beside[random_below(sizeof beside)];
     if (random_once_in(2)) return;
     do parts.key_count = (uint8_t)random_next();
     while (model_cipher_of(parts.key_count) != MODEL_CIPHERS);
 }
 
-/* Now and then the keys of one cipher alone. */
+/* Now and then the keys of one cipher alone, or those of all ciphers but the last. */
 static size_t wrong_keys_length(void) {
-    if (random_once_in(6)) return 4 * model_ciphers[MODEL_TRIVIUM].key_bytes;
-    if (random_once_in(5)) return 4 * model_ciphers[MODEL_ENOCORO].key_bytes;
-    return wrong_length(KEYS_BYTES);
+    if (random_once_in(2)) return wrong_length(KEYS_BYTES);
+    const struct model_cipher *some = &model_ciphers[random_below(MODEL_CIPHERS)];
+    return some->keys_at > 0 && random_once_in(2) ? some->keys_at : KEYS * some->key_bytes;
 }
 
-static size_t keys_length_but_for(faults set) {
-    return has(set, 1) ? wrong_keys_length() : KEYS_BYTES;
+static struct run keys_but_for(faults set) {
+    return run_of(keys, has(set, 1) ? wrong_keys_length() : KEYS_BYTES);
 }
 
-/* Now and then the length for the other cipher. */
+/* Now and then the length for another cipher. */
 static size_t wrong_value_length(void) {
     return random_once_in(3) ? other_cipher()->value_bytes : wrong_length(cipher()->value_bytes);
 }
@@ -154,6 +168,43 @@ static size_t put_bytes(size_t at, const uint8_t *bytes, size_t count) {
     return at + count;
 }
 
+/* Where a piece ends in a file of these parts. */
+static size_t piece_end(size_t piece) {
+    const size_t lengths[PIECES] = {
+        1, parts.name_length, 1, 1 + cipher()->value_bytes, 4, 2 * parts.samples, 1, 4 * parts.loop_numbers,
+        cipher()->tag_bytes > 0 ? 1 : 0, cipher()->tag_bytes,
+    };
+    size_t end = 0;
+    for (size_t i = 0; i <= piece; i++) end += lengths[i];
+    return end;
+}
+
+/* How many pieces a file of these parts has. */
+static size_t pieces(void) {
+    return cipher()->tag_bytes > 0 ? PIECES : TAG_COUNT;
+}
+
+/* What lies over the samples of a file of the parts. A key number out of rule is brought into it. */
+static uint8_t keystream[2 * SAMPLES_ROOM];
+
+static void make_keystream(void) {
+    union model_generator generator;
+    model_cipher_start(&generator, cipher(), keys, parts.key_number % KEYS, parts.value);
+    for (size_t i = 0; i < 2 * parts.samples; i++) keystream[i] = cipher()->next_byte(&generator);
+}
+
+/* The tag of what stands in a file of the parts, where there is one. It wants the keystream. */
+static void put_tag(void) {
+    static uint8_t associated[REST_ROOM], plain[2 * SAMPLES_ROOM];
+    size_t body = piece_end(SAMPLE_COUNT), behind = piece_end(SAMPLES), rest = piece_end(LOOPS) - behind;
+    if (cipher()->tag_bytes == 0) return;
+    memcpy(associated, file, body);
+    memcpy(associated + body, file + behind, rest);
+    for (size_t i = 0; i < 2 * parts.samples; i++) plain[i] = file[body + i] ^ keystream[i];
+    cipher()->tag(file + piece_end(TAG_COUNT), model_cipher_key(cipher(), keys, parts.key_number % KEYS), parts.value,
+                  associated, body + rest, plain, 2 * parts.samples);
+}
+
 static void write_file(void) {
     size_t at = put_number(0, 1, (uint32_t)parts.name_length);
     at = put_bytes(at, parts.name, parts.name_length);
@@ -164,6 +215,11 @@ static void write_file(void) {
     at = put_bytes(at, noise(2 * parts.samples), 2 * parts.samples);
     at = put_number(at, 1, (uint32_t)(parts.loop_numbers / 2));
     for (size_t i = 0; i < parts.loop_numbers; i++) at = put_number(at, 4, parts.loops[i]);
+    if (cipher()->tag_bytes > 0) {
+        at = put_number(at, 1, parts.tag_count) + cipher()->tag_bytes;
+        make_keystream();
+        put_tag();
+    }
     file_length = put_bytes(at, noise(parts.extra), parts.extra);
 }
 
@@ -195,20 +251,21 @@ static void keep_opened(void) {
     }
 }
 
-static uint8_t open_file(struct run keys, size_t sample_room, size_t answer_room) {
-    uint8_t no = compare_pack_open(lent_file(), keys, room(sample_room), room(answer_room));
+static uint8_t open_file(struct run lent_keys, size_t sample_room, size_t answer_room) {
+    uint8_t no = compare_pack_open(lent_file(), lent_keys, room(sample_room), room(answer_room));
     if (no == 0) keep_opened();
     return no;
 }
 
 static bool is_cut(uint8_t no) {
-    return no >= SEMIVRAKH_CUT_IN_NAME && no <= SEMIVRAKH_CUT_IN_LOOPS;
+    return (no >= SEMIVRAKH_CUT_IN_NAME && no <= SEMIVRAKH_CUT_IN_LOOPS) || no == SEMIVRAKH_CUT_IN_TAG;
 }
 
-/* What a file lacks that surveying answered `no` to. */
+/* What a file lacks that surveying answered `no` to. With 45 it lacks nothing if the tag's count is another. */
 static size_t lack_of(struct run some_file, uint8_t no) {
     size_t lack = compare_pack_lacks(some_file);
-    if (is_cut(no) && lack == 0) differ("a file that is refused with %d lacks nothing", no);
+    bool must_lack = is_cut(no) && no != SEMIVRAKH_CUT_IN_TAG;
+    if (must_lack && lack == 0) differ("a file that is refused with %d lacks nothing", no);
     if (!is_cut(no) && lack > 0) differ("a file lacks %zu bytes, and surveying it answers %d", lack, no);
     return lack;
 }
@@ -227,7 +284,8 @@ static uint8_t lengthen(size_t more, size_t *lack) {
 }
 
 /* What lacking means: with fewer bytes more the file is refused with the same number, and lacks as many fewer. With all
- * of them it isn't; but one that ended in a count may end in the body that the count promises. Answers if it does. */
+ * of them it isn't; but one that ended in a count may end in the body that the count promises. Answers if it does. A
+ * tag's count may be another, and the file then lacks nothing. */
 static bool ends_in_body_then(uint8_t no, size_t lack) {
     size_t fewer = shorter_than(lack), rest, body;
     memcpy(longer, file, file_length);
@@ -235,7 +293,7 @@ static bool ends_in_body_then(uint8_t no, size_t lack) {
     if (lengthen(fewer, &rest) != no || rest != lack - fewer) {
         differ("a file lacks %zu bytes, and not %zu when it has %zu of them", lack, lack - fewer, fewer);
     }
-    if (lengthen(rest, &body) != no) return false;
+    if (lengthen(rest, &body) != no || body == 0) return false;
     if (lengthen(body, &rest) == no) differ("a file has all that it lacks, and is still refused with %d", no);
     return true;
 }
@@ -254,17 +312,7 @@ static void survey_file(uint8_t opening, size_t answer_room) {
         differ("a pack is surveyed with other numbers than it is opened with");
     }
     surveyed.lack = lack_of(lent_file(), surveyed.no);
-    surveyed.ends_in_body_then = is_cut(surveyed.no) && ends_in_body_then(surveyed.no, surveyed.lack);
-}
-
-/* Where a piece ends in a file of these parts. */
-static size_t piece_end(size_t piece) {
-    const size_t lengths[PIECES] = {
-        1, parts.name_length, 1, 1 + cipher()->value_bytes, 4, 2 * parts.samples, 1, 4 * parts.loop_numbers,
-    };
-    size_t end = 0;
-    for (size_t i = 0; i <= piece; i++) end += lengths[i];
-    return end;
+    surveyed.ends_in_body_then = surveyed.lack > 0 && ends_in_body_then(surveyed.no, surveyed.lack);
 }
 
 /* The piece that a front of such a file ends in. */
@@ -275,12 +323,26 @@ static size_t piece_cut(size_t front) {
 }
 
 static uint8_t number_of_cut(size_t piece) {
-    return (uint8_t)(SEMIVRAKH_CUT_IN_NAME + piece / 2);
+    static const uint8_t numbers[SECTIONS] = {
+        SEMIVRAKH_CUT_IN_NAME, SEMIVRAKH_CUT_IN_KEY, SEMIVRAKH_CUT_IN_SAMPLES, SEMIVRAKH_CUT_IN_LOOPS,
+        SEMIVRAKH_CUT_IN_TAG,
+    };
+    return numbers[piece / 2];
+}
+
+/* Whether a file of these parts reaches to a tag's count, and this is another. */
+static bool has_other_tag_count(void) {
+    return pieces() > TAG_COUNT && file_length >= piece_end(TAG_COUNT) && parts.tag_count != TAG_BYTES;
 }
 
 /* A front of a file of these parts, refused as cut, was refused for the piece that it ends in. */
 static void look_at_cut(void) {
     if (!is_cut(surveyed.no)) return;
+    if (surveyed.no == SEMIVRAKH_CUT_IN_TAG && has_other_tag_count()) {
+        if (surveyed.lack > 0) differ("a file with another count of its tag lacks %zu bytes", surveyed.lack);
+        times_other_tag_count++;
+        return;
+    }
     size_t piece = piece_cut(file_length), lack = piece_end(piece) - file_length;
     const char *name = piece_names[piece];
     bool in_body = piece % 2 == 1;
@@ -296,18 +358,49 @@ static void cut_in(size_t piece) {
     file_length = begin + shorter_than(end - begin);
 }
 
-/* Cuts the file in the first section that the set wants cut: in its body, if the count is to be seen. */
+/* Cuts the file in the first section that the set wants cut: in its body, if the count is to be seen. A tag's section
+ * need not be cut if its count is another. */
 static void cut_as(faults set) {
     static const uint8_t of_count[SECTIONS] = {11, 13, 15, 16};
     size_t section = 0;
     while (section < SECTIONS && !has(set, number_of_cut(2 * section))) section++;
-    if (section < SECTIONS) cut_in(2 * section + (has(set, of_count[section]) || random_once_in(2)));
+    if (section == SECTIONS || (section == TAG_SECTION && has_other_tag_count())) return;
+    cut_in(2 * section + (has(set, of_count[section]) || random_once_in(2)));
 }
 
-/* Survey and loops take no keys, and list no 1: it is passed over where their number is planned. */
+/* A count that is none of a tag, often one beside it. */
+static void spoil_tag_count(void) {
+    static const uint8_t beside[] = {0, 7, 9, 16, 64};
+    do parts.tag_count = random_once_in(2) ? beside[random_below(sizeof beside)] : (uint8_t)random_next();
+    while (parts.tag_count == TAG_BYTES);
+}
+
+static void turn_a_bit(uint8_t *byte) {
+    *byte ^= (uint8_t)(1 << random_below(8));
+}
+
+/* A bit of a tagged file or of its key, turned so that nothing but the tag can tell. */
+static void spoil_tag(void) {
+    uint8_t *own_key = keys + cipher()->keys_at + cipher()->key_bytes * (parts.key_number % KEYS);
+    switch (random_below(5)) {
+        case 0: turn_a_bit(file + piece_end(SAMPLE_COUNT) + random_below((uint32_t)(2 * parts.samples))); break;
+        case 1: turn_a_bit(file + piece_end(KEY) - 1 - random_below((uint32_t)cipher()->value_bytes)); break;
+        case 2: turn_a_bit(own_key + random_below((uint32_t)cipher()->key_bytes)); break;
+        default: turn_a_bit(file + piece_end(TAG_COUNT) + random_below(TAG_BYTES)); break;
+    }
+}
+
+/* For each number that tells of a key count or of an initial value, the cipher that the parts are of. */
+static void count_refused_key(uint8_t no) {
+    if (no == SEMIVRAKH_BAD_KEY_COUNT) times_not_counted[parts.cipher]++;
+    if (no == SEMIVRAKH_BAD_VALUE) times_not_valued[parts.cipher]++;
+}
+
+/* Survey and loops take no keys, and list neither 1 nor 38: these are passed over where their number is planned. */
 static void open_with(faults set) {
     size_t sample_room, answer_room = enough(7);
     choose_small_parts();
+    if (has(set, SEMIVRAKH_CUT_IN_TAG) || has(set, SEMIVRAKH_WRONG_TAG)) choose_key(MODEL_TRIAD);
     if (has(set, 11)) choose_name(random_once_in(2) ? 33 : random_between(34, 255));
     if (has(set, 12)) spoil_name();
     if (has(set, 13)) spoil_key_count();
@@ -315,6 +408,7 @@ static void open_with(faults set) {
     if (has(set, 15)) claim_many_samples();
     if (has(set, 16)) choose_loops(2 * (random_once_in(2) ? 9 : random_between(10, 255)), (uint32_t)parts.samples);
     if (has(set, 17)) spoil_loop((uint32_t)parts.samples);
+    if (has(set, SEMIVRAKH_CUT_IN_TAG) && random_once_in(3)) spoil_tag_count();
     if (has(set, 18)) parts.extra = random_once_in(2) ? 1 : random_between(2, EXTRA_MOST);
     sample_room = enough(parts.samples);
     if (has(set, 19)) {
@@ -322,9 +416,11 @@ static void open_with(faults set) {
         else answer_room = shorter_than(7);
     }
     write_file();
+    if (has(set, SEMIVRAKH_WRONG_TAG)) spoil_tag();
     cut_as(set);
     plan_first(PACK_OPEN, set);
-    uint8_t no = open_file(room(keys_length_but_for(set)), sample_room, answer_room);
+    uint8_t no = open_file(keys_but_for(set), sample_room, answer_room);
+    count_refused_key(no);
     plan_first(PACK_SURVEY, set);
     survey_file(no, enough_but_for(set, 7));
     look_at_cut();
@@ -336,13 +432,13 @@ void opening_packs(void) {
     with_each_fault_set(PACK_OPEN, 0, open_with);
 }
 
-/* What is wrong with a file is the same without keys; the room is another thing. */
+/* What is wrong with a file is the same without keys, but for its tag; the room is another thing. */
 static void plan_as_opening(uint8_t opening) {
-    if (opening != 0 && opening != SEMIVRAKH_NO_ROOM) plan_number(opening);
+    if (opening != 0 && opening != SEMIVRAKH_WRONG_TAG && opening != SEMIVRAKH_NO_ROOM) plan_number(opening);
 }
 
 static void read_file_in(size_t sample_room) {
-    uint8_t no = open_file(room(KEYS_BYTES), sample_room, enough(7));
+    uint8_t no = open_file(keys_but_for(0), sample_room, enough(7));
     plan_as_opening(no);
     survey_file(no, enough_or_not(7));
     plan_as_opening(no);
@@ -376,22 +472,35 @@ static void read_lengthened(void) {
     file_length = whole;
 }
 
-/* Under the count of the other cipher, the sample count is read two bytes before its place or behind it. Behind it, its
- * first two bytes are the low ones of the true count, which make it too large. Before it, they are the last two of the
- * initial value: if these are zeros, no samples and no loops are read, and what follows is more than a file has. */
-static void read_under_the_other_count(void) {
+/* Under a larger count, the sample count is read two or four bytes behind its place. Its first two bytes are the low
+ * ones of the true count, or those of the first sample, and make it too large if they aren't zeros. */
+static uint8_t read_behind(void) {
+    file[piece_end(SAMPLE_COUNT)] |= 1;
+    return SEMIVRAKH_MANY_SAMPLES;
+}
+
+/* Under a smaller count, it is read as much before: it begins with the last bytes of the initial value, and with zeros
+ * for these no samples and no loops are read, and what follows is more than a file without a tag has. */
+static uint8_t read_before(size_t bytes) {
     bool zeros = random_once_in(2);
+    uint8_t *last = file + piece_end(KEY) - bytes;
+    if (zeros) memset(last, 0, bytes);
+    else last[0] |= 1;
+    return zeros ? SEMIVRAKH_MORE_BYTES : SEMIVRAKH_MANY_SAMPLES;
+}
+
+static void read_under_another_count(void) {
     choose_small_parts();
-    parts.key_count = other_cipher()->key_count;
-    if (zeros) memset(parts.value + VALUE_MOST - 2, 0, 2);
-    else parts.value[VALUE_MOST - 2] |= 1;
+    const struct model_cipher *other = other_cipher();
+    parts.key_count = other->key_count;
     write_file();
-    plan_number(parts.cipher == MODEL_TRIVIUM && zeros ? SEMIVRAKH_MORE_BYTES : SEMIVRAKH_MANY_SAMPLES);
+    size_t here = cipher()->value_bytes, there = other->value_bytes;
+    plan_number(there > here ? read_behind() : read_before(here - there));
     read_file();
 }
 
-void packs_under_the_other_count(void) {
-    for (int packs = 0; packs < 20; packs++) read_under_the_other_count();
+void packs_under_another_count(void) {
+    for (int packs = 0; packs < 20; packs++) read_under_another_count();
 }
 
 void damaged_packs(void) {
@@ -404,6 +513,101 @@ void damaged_packs(void) {
     read_lengthened();
     file_length -= random_once_in(2) ? 0 : random_below((uint32_t)file_length);
     with_each_byte_damaged(file, file_length, read_file);
+}
+
+static uint8_t open_tagged(void) {
+    return open_file(keys_but_for(0), enough(parts.samples), enough(7));
+}
+
+/* A bit of one byte turned: the file isn't opened, whatever that byte is. */
+static void open_damaged_at(size_t place, unsigned bit) {
+    uint8_t right = file[place];
+    size_t piece = piece_cut(place); /* a front that ends before this byte ends in its piece */
+    file[place] ^= (uint8_t)(1 << bit);
+    if (piece == SAMPLES || piece == TAG) plan_number(SEMIVRAKH_WRONG_TAG);
+    uint8_t no = open_tagged();
+    if (no == 0 || no == SEMIVRAKH_NO_ROOM) differ("a tagged file damaged at byte %zu is answered with %d", place, no);
+    times_damaged[piece]++;
+    if (no == SEMIVRAKH_WRONG_TAG) times_told_by_tag[piece]++;
+    file[place] = right;
+}
+
+/* A bit of a key turned: only the key that the file is under matters. */
+static void open_under_other_key(size_t place, bool is_own) {
+    uint8_t right = keys[place];
+    turn_a_bit(keys + place);
+    plan_number(is_own ? SEMIVRAKH_WRONG_TAG : 0);
+    open_tagged();
+    keys[place] = right;
+}
+
+static void open_under_other_keys(void) {
+    size_t own = cipher()->keys_at + cipher()->key_bytes * parts.key_number, end = own + cipher()->key_bytes;
+    for (size_t place = own; place < end; place++, times_other_key++) open_under_other_key(place, true);
+    for (int times = 0; times < 4; times++) {
+        size_t place = random_below(KEYS_BYTES);
+        open_under_other_key(place, place >= own && place < end);
+    }
+}
+
+/* Another byte that is as good as the right one for everything but the tag. */
+static void open_with_other_byte(size_t place, size_t other) {
+    uint8_t right = file[place];
+    file[place] = (uint8_t)other;
+    plan_number(SEMIVRAKH_WRONG_TAG);
+    open_tagged();
+    file[place] = right;
+}
+
+/* Another letter of the name, the number of another key that is the same key, and another start of a loop. */
+static void open_with_other_words(void) {
+    size_t letter = piece_end(NAME_COUNT), number = piece_end(KEY_COUNT), start = piece_end(LOOP_COUNT) + 3;
+    open_with_other_byte(letter, file[letter] == 'A' ? 'B' : 'A');
+    open_with_other_byte(number, (file[number] + random_between(1, KEYS - 1)) % KEYS);
+    if (parts.loops[1] > 1) open_with_other_byte(start, (parts.loops[0] + 1) % parts.loops[1]);
+}
+
+static void put_one_key_in_each_row(void) {
+    uint8_t *rows = keys + cipher()->keys_at;
+    for (size_t row = 1; row < KEYS; row++) memcpy(rows + row * cipher()->key_bytes, rows, cipher()->key_bytes);
+}
+
+/* A tagged file and its key, with a bit of each byte turned, or of the file with every bit. */
+static void damage_tagged_pack(bool every_bit) {
+    choose_small_parts();
+    choose_key(MODEL_TRIAD);
+    write_file();
+    plan_number(0);
+    read_file();
+    for (size_t place = 0; place < file_length; place++) {
+        for (unsigned bit = 0; every_bit && bit < 8; bit++) open_damaged_at(place, bit);
+        if (!every_bit) open_damaged_at(place, random_below(8));
+    }
+    open_under_other_keys();
+    put_one_key_in_each_row();
+    write_file();
+    open_with_other_words();
+}
+
+/* The section of a tag cut before its count and at a place of the tag, and with another count. */
+static void spoil_tag_section(void) {
+    choose_small_parts();
+    choose_key(MODEL_TRIAD);
+    write_file();
+    cut_in(TAG_COUNT);
+    read_front();
+    cut_in(TAG);
+    read_front();
+    spoil_tag_count();
+    write_file();
+    plan_number(SEMIVRAKH_CUT_IN_TAG);
+    read_file();
+    look_at_cut();
+}
+
+void damaged_tagged_packs(void) {
+    for (int packs = 0; packs < 4; packs++) damage_tagged_pack(packs == 0);
+    for (int packs = 0; packs < 10; packs++) spoil_tag_section();
 }
 
 /* Asks for the loops of what was sealed, in too little room and in enough. */
@@ -477,18 +681,17 @@ static void count_refused_sound(void) {
 static uint8_t seal(const struct sealing *sealing) {
     uint8_t no = compare_pack_seal(sealing);
     if (no == 0) times_sealed[model_cipher_of(sealing->cipher)]++;
+    count_refused_key(no);
     return no;
 }
 
 /* Seals the sound with the parts, and with the faults of the set that are not in these. */
 static void seal_sound(faults set) {
     static int16_t samples[SAMPLES_ROOM]; /* the sound once more, as opening goes over it */
-    static uint8_t keys[KEYS_ROOM];
     memcpy(samples, sound, sizeof samples);
-    memcpy(keys, noise(sizeof keys), sizeof keys);
     struct sealing sealing = {
         .name = run_of(parts.name, parts.name_length),
-        .keys = run_of(keys, keys_length_but_for(set)),
+        .keys = keys_but_for(set),
         .cipher = parts.key_count,
         .key_number = parts.key_number,
         .value = has(set, 2) ? room(wrong_value_length()) : run_of(parts.value, cipher()->value_bytes),
@@ -525,6 +728,25 @@ static void seal_with(faults set) {
 
 void sealing_packs(void) {
     with_each_fault_set(PACK_SEAL, 0, seal_with);
+}
+
+/* The parts of a pack under this cipher, refused for another key count, and for an initial value of another length. */
+static void refuse_key_of(unsigned which) {
+    choose_small_parts();
+    choose_key(which);
+    choose_sound();
+    seal_sound(fault(SEMIVRAKH_BAD_VALUE));
+    spoil_key_count();
+    seal_sound(fault(SEMIVRAKH_BAD_KEY_COUNT) | (random_once_in(2) ? fault(SEMIVRAKH_BAD_VALUE) : 0));
+    write_file();
+    plan_number(SEMIVRAKH_BAD_KEY_COUNT);
+    count_refused_key(open_file(keys_but_for(0), enough(parts.samples), enough(7)));
+}
+
+void refusing_keys_of_packs(void) {
+    for (unsigned which = 0; which < MODEL_CIPHERS; which++) {
+        for (int packs = 0; packs < 10; packs++) refuse_key_of(which);
+    }
 }
 
 static void seal_shape(size_t name_length, size_t samples, size_t loops) {
@@ -574,9 +796,7 @@ void sealing_lowest_samples(void) {
     }
 }
 
-/* A file whose plain words are known: it is sealed under these keys, and this is the keystream over them. */
-static uint8_t known_keys[KEYS_BYTES], keystream[2 * SEMIVRAKH_SAMPLES_MOST];
-
+/* A file whose plain words are known, as the keystream over them is. */
 static uint8_t *enciphered_word(size_t place) {
     return file + piece_end(SAMPLE_COUNT) + 2 * place;
 }
@@ -593,20 +813,17 @@ static void put_word(size_t place, unsigned word) {
     bytes[1] = (uint8_t)(word % 256) ^ stream[1];
 }
 
-/* A file of the parts, with the sound in it. */
+/* A file of the parts, with the sound in it. Its tag is put where it is opened. */
 static void write_known_file(void) {
-    union model_generator generator;
-    memcpy(known_keys, noise(sizeof known_keys), sizeof known_keys);
-    model_cipher_start(&generator, cipher(), known_keys, parts.key_number, parts.value);
-    for (size_t i = 0; i < 2 * parts.samples; i++) keystream[i] = cipher()->next_byte(&generator);
     write_file();
+    make_keystream();
     for (size_t i = 0; i < parts.samples; i++) put_word(i, (uint16_t)sound[i]);
 }
 
 /* The samples of the file are its words, but for the lowest. */
 static void open_known_file(void) {
     plan_number(0);
-    open_file(run_of(known_keys, sizeof known_keys), enough(parts.samples), enough(7));
+    open_file(keys_but_for(0), enough(parts.samples), enough(7));
     for (size_t i = 0; i < parts.samples; i++) {
         unsigned word = word_at(i), told = (uint16_t)sound[i];
         if (word == LOWEST_WORD) times_read_at[stand_of(i, parts.samples)]++;
@@ -622,7 +839,7 @@ static void seal_opened(void) {
     memcpy(loops, after(1), sizeof loops);
     struct sealing sealing = {
         .name = run_of(file + opened[SEMIVRAKH_OPENED_NAME_AT], opened[SEMIVRAKH_OPENED_NAME_LENGTH]),
-        .keys = run_of(known_keys, sizeof known_keys),
+        .keys = keys_but_for(0),
         .cipher = opened_key_count(),
         .key_number = (uint8_t)opened[SEMIVRAKH_OPENED_KEY],
         .value = run_of(file + opened[SEMIVRAKH_OPENED_VALUE_AT], opened_key_count() - 1),
@@ -650,14 +867,16 @@ static size_t raise_words(void) {
 }
 
 /* Opens the known file and seals it again. It comes back exactly if no plain word was 80 00, and otherwise with these
- * raised and nothing else changed. Leaves the file as it came back. */
+ * raised, the tag of the new words if there is one, and nothing else changed. Leaves the file as it came back. */
 static void there_and_back(void) {
+    put_tag();
     open_known_file();
     seal_opened();
     const void *back = after(SEALED_OUTPUT);
     size_t length = *(const size_t *)after(SEALED_LENGTH);
     bool same = is_file(back, length);
     size_t raised = raise_words();
+    put_tag();
     if (same != (raised == 0)) {
         differ("a pack with %zu words of 80 00, opened and sealed again, is %s", raised, same ? "the same" : "another");
     }
@@ -742,7 +961,7 @@ void cut_packs(void) {
         size_t samples = random_between(1, i == 0 ? SEMIVRAKH_SAMPLES_MOST : 300);
         choose_parts(random_between(1, SEMIVRAKH_NAME_MOST), samples, random_between(1, SEMIVRAKH_LOOPS_MOST));
         write_file();
-        for (size_t piece = 0; piece < PIECES; piece++) {
+        for (size_t piece = 0; piece < pieces(); piece++) {
             cut_in(piece);
             read_front();
         }
@@ -767,19 +986,43 @@ static bool each_cipher_often_enough(const char *what, const uint64_t times[MODE
 bool ciphers_often_enough(uint64_t each) {
     bool enough = each_cipher_often_enough("opened under", times_opened, each);
     enough &= each_cipher_often_enough("sealed under", times_sealed, each);
+    enough &= each_cipher_often_enough("13 instead of", times_not_counted, each);
+    enough &= each_cipher_often_enough("2 instead of", times_not_valued, each);
+    return enough;
+}
+
+static bool each_piece_often_enough(const char *what, const uint64_t times[PIECES], uint64_t each) {
+    bool enough = true;
+    printf("%-15s", what);
+    for (size_t i = 0; i < PIECES; i++) printf(" %s:%" PRIu64, piece_names[i], times[i]);
+    printf("\n");
+    for (size_t i = 0; i < PIECES; i++) {
+        if (times[i] >= each) continue;
+        printf("FAILED: a file was %s %s only %" PRIu64 " times\n", what, piece_names[i], times[i]);
+        enough = false;
+    }
     return enough;
 }
 
 bool cuts_often_enough(uint64_t each) {
-    bool enough = true;
-    printf("cut in its     ");
-    for (size_t i = 0; i < PIECES; i++) printf(" %s:%" PRIu64, piece_names[i], times_cut[i]);
-    printf("\n");
-    for (size_t i = 0; i < PIECES; i++) {
-        if (times_cut[i] >= each) continue;
-        printf("FAILED: a file was cut in its %s only %" PRIu64 " times\n", piece_names[i], times_cut[i]);
-        enough = false;
-    }
+    return each_piece_often_enough("cut in its", times_cut, each);
+}
+
+static bool often_enough(const char *what, uint64_t times, uint64_t each) {
+    if (times >= each) return true;
+    printf("FAILED: %s only %" PRIu64 " times\n", what, times);
+    return false;
+}
+
+bool tags_often_enough(uint64_t each) {
+    bool enough = each_piece_often_enough("damaged in its", times_damaged, each);
+    printf("told by its tag");
+    for (size_t i = 0; i < PIECES; i++) printf(" %s:%" PRIu64, piece_names[i], times_told_by_tag[i]);
+    printf("\n%-15s in its key:%" PRIu64 " in its tag count:%" PRIu64 "\n", "another byte", times_other_key,
+           times_other_tag_count);
+    enough &= often_enough("a damaged initial value was told by the tag", times_told_by_tag[KEY], each);
+    enough &= often_enough("a tagged file was opened under another key", times_other_key, each);
+    enough &= often_enough("a tag had another count", times_other_tag_count, each);
     return enough;
 }
 
@@ -788,13 +1031,16 @@ static void choose_random_file(void) {
     memcpy(file, noise(file_length), file_length);
 }
 
-/* A front that can be read up to the loop count: no name, a key of either cipher, and no samples. */
+/* A front that can be read up to the loop count, or often with no loops to a tag's count, or with that to the tag: no
+ * name, a key of any cipher, and no samples. */
 static void put_readable_front(void) {
     const struct model_cipher *under = &model_ciphers[random_below(MODEL_CIPHERS)];
+    uint8_t *behind_key = file + 3 + under->value_bytes;
     file[0] = 0;
     file[1] = under->key_count;
     file[2] &= 3;
-    memset(file + 3 + under->value_bytes, 0, 4);
+    memset(behind_key, 0, random_once_in(2) ? 4 : 5);
+    if (random_once_in(2)) behind_key[5] = (uint8_t)under->tag_bytes;
 }
 
 void random_packs(void) {

@@ -10,19 +10,26 @@ void enciphering(void);
 void streams_in_pieces(void);
 void damaged_ciphers(void);
 void random_cipher_input(void);
+void all_splits_of_tagged_bytes(void);
+void tagging_bytes(void);
 
 void sealing_packs(void);
 void opening_packs(void);
+void refusing_keys_of_packs(void);
 void packs_of_all_shapes(void);
 void large_packs(void);
-void packs_under_the_other_count(void);
+void packs_under_another_count(void);
 void damaged_packs(void);
+void damaged_tagged_packs(void);
 void cut_packs(void);
 void sealing_lowest_samples(void);
 void opening_lowest_words(void);
 void random_packs(void);
-/* Prints how often packs under each cipher were opened and sealed, and answers if each was at least so many times. */
+/* Prints how often packs under each cipher were opened and sealed, and refused for their key count or initial value,
+ * and answers if each was at least so many times. */
 bool ciphers_often_enough(uint64_t each);
+/* The same of tagged packs that were damaged in each count and in each body, and of tag sections that were no such. */
+bool tags_often_enough(uint64_t each);
 /* Prints how often a file was cut in each count and in each body, and answers if each was so at least so many times. */
 bool cuts_often_enough(uint64_t each);
 /* The same of samples of -32,768 that were refused and words of 80 00 that were opened, at each place of eight and in

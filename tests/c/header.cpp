@@ -1,5 +1,5 @@
-// The headers as C++: every call is named and linked, one stream and one pack under each cipher go there and back, one
-// empty sound goes over the link, and each number for no has its words.
+// The headers as C++: every call is named and linked, one stream and one pack under each cipher go there and back, a
+// tag comes out as its paper has it, one empty sound goes over the link, and each number for no has its words.
 #include "semivrakh_words.h"
 #include "semivrakh.h"
 
@@ -29,6 +29,27 @@ static bool enocoro_comes_back() {
     no |= semivrakh_enocoro_make(cipher, sizeof cipher, keys, key, keys, value);
     no |= semivrakh_enocoro_encipher(cipher, sizeof cipher, sealed, sizeof sealed, opened, sizeof opened);
     return no == SEMIVRAKH_OK && std::memcmp(plain, opened, sizeof plain) == 0;
+}
+
+static bool triad_comes_back() {
+    const uint8_t plain[5] = {'s', 'o', 'u', 'n', 'd'};
+    const size_t key = SEMIVRAKH_TRIAD_KEY_BYTES, nonce = SEMIVRAKH_TRIAD_NONCE_BYTES;
+    uint8_t cipher[SEMIVRAKH_TRIAD_BYTES], sealed[sizeof plain], opened[sizeof plain];
+    int no = semivrakh_triad_make(cipher, sizeof cipher, keys, key, keys, nonce);
+    no |= semivrakh_triad_encipher(cipher, sizeof cipher, plain, sizeof plain, sealed, sizeof sealed);
+    no |= semivrakh_triad_make(cipher, sizeof cipher, keys, key, keys, nonce);
+    no |= semivrakh_triad_encipher(cipher, sizeof cipher, sealed, sizeof sealed, opened, sizeof opened);
+    return no == SEMIVRAKH_OK && std::memcmp(plain, opened, sizeof plain) == 0;
+}
+
+// Annex A.1 of TRIAD's paper, its second vector: key and nonce count up from 0, data and message are a zero each.
+static bool tag_is_the_papers() {
+    const uint8_t key[SEMIVRAKH_TRIAD_KEY_BYTES] = {0, 1, 2, 3, 4, 5, 6, 7, 8, 9, 10, 11, 12, 13, 14, 15};
+    const uint8_t printed[SEMIVRAKH_TAG_BYTES] = {0xD4, 0x1A, 0xF0, 0x01, 0xD9, 0xD7, 0x53, 0x67};
+    uint8_t tag[SEMIVRAKH_TAG_BYTES];
+    const int no = semivrakh_triad_tag(key, sizeof key, key, SEMIVRAKH_TRIAD_NONCE_BYTES, keys, 1, keys, 1,
+                                       tag, sizeof tag);
+    return no == SEMIVRAKH_OK && std::memcmp(tag, printed, sizeof tag) == 0;
 }
 
 static bool pack_comes_back(uint8_t cipher, size_t value) {
@@ -75,7 +96,8 @@ static const unsigned refusals[] = {
     SEMIVRAKH_NO_ROOM,        SEMIVRAKH_NO_SESSION,     SEMIVRAKH_LONG_SOUND,     SEMIVRAKH_NO_TRANSFER,
     SEMIVRAKH_WRONG_SOUND,    SEMIVRAKH_NOT_A_FRAME,    SEMIVRAKH_OTHER_SESSION,  SEMIVRAKH_IMPOSSIBLE,
     SEMIVRAKH_OUT_OF_RULE,    SEMIVRAKH_CUT_IN_NAME,    SEMIVRAKH_CUT_IN_KEY,     SEMIVRAKH_CUT_IN_SAMPLES,
-    SEMIVRAKH_CUT_IN_LOOPS,   SEMIVRAKH_LOWEST_SAMPLE,  SEMIVRAKH_OTHER_LENGTH,
+    SEMIVRAKH_CUT_IN_LOOPS,   SEMIVRAKH_LOWEST_SAMPLE,  SEMIVRAKH_OTHER_LENGTH,   SEMIVRAKH_WRONG_TAG,
+    SEMIVRAKH_CUT_IN_TAG,
 };
 
 static bool is_refusal(unsigned number) {
@@ -109,9 +131,13 @@ static int failed(const char *what) {
 }
 
 int main() {
-    if (!trivium_comes_back() || !enocoro_comes_back()) return failed("a stream comes back as another");
+    if (!trivium_comes_back() || !enocoro_comes_back() || !triad_comes_back()) {
+        return failed("a stream comes back as another");
+    }
+    if (!tag_is_the_papers()) return failed("a tag is not the paper's");
     if (!pack_comes_back(SEMIVRAKH_TRIVIUM, SEMIVRAKH_VALUE_BYTES)
-        || !pack_comes_back(SEMIVRAKH_ENOCORO, SEMIVRAKH_ENOCORO_VALUE_BYTES)) {
+        || !pack_comes_back(SEMIVRAKH_ENOCORO, SEMIVRAKH_ENOCORO_VALUE_BYTES)
+        || !pack_comes_back(SEMIVRAKH_TRIAD, SEMIVRAKH_TRIAD_NONCE_BYTES)) {
         return failed("a pack comes back as another");
     }
     if (!empty_sound_arrives()) return failed("an empty sound doesn't arrive");

@@ -16,6 +16,9 @@ enum call {
     CIPHER_ENCIPHER,
     ENOCORO_MAKE,
     ENOCORO_ENCIPHER,
+    TRIAD_MAKE,
+    TRIAD_ENCIPHER,
+    TRIAD_TAG,
     PACK_OPEN,
     PACK_SURVEY,
     PACK_LOOPS,
@@ -32,10 +35,11 @@ enum call {
     CALLS
 };
 
-enum { NUMBERS = 256, LENT_MOST = 8, REFUSALS_MOST = 16 };
+enum { NUMBERS = 256, LENT_MOST = 8, REFUSALS_MOST = 20 };
 
 /* What the header lists for a call, in its order, and a 0 at the end. A file that ends inside a section is listed once,
- * for its body: behind what is wrong with the section's count, before what is wrong with the body. */
+ * for its body: behind what is wrong with the section's count, before what is wrong with the body. With a tag's section
+ * both have the same number. */
 extern const uint8_t listed_refusals[CALLS][REFUSALS_MOST];
 extern const char *const call_names[CALLS];
 

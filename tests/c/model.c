@@ -11,6 +11,12 @@ struct model_rules model_rules = {
     },
     .box = {1, 3, 9, 10, 5, 14, 7, 2, 13, 0, 12, 15, 4, 8, 6, 11},
     .boxed = {2, 7, 16, 29},
+    .triad_taps = {
+        [MODEL_A] = {.near = 68, .oldest = 80, .factor = 73, .other_factor = 79, .own = 74},
+        [MODEL_B] = {.near = 64, .oldest = 88, .factor = 65, .other_factor = 87, .own = 66},
+        [MODEL_C] = {.near = 68, .oldest = 88, .factor = 77, .other_factor = 87, .own = 84},
+    },
+    .triad_product = 85,
     .number = {
         [MODEL_BAD_KEY] = 1,
         [MODEL_BAD_VALUE] = 2,
@@ -38,9 +44,13 @@ struct model_rules model_rules = {
         [MODEL_CUT_IN_LOOPS] = 33,
         [MODEL_LOWEST_SAMPLE] = 34,
         [MODEL_OTHER_LENGTH] = 36,
+        [MODEL_WRONG_TAG] = 38,
+        [MODEL_CUT_IN_TAG] = 45,
     },
     .lacks_besides = 0,
     .lowest_opened = -32767,
+    .tag_compared = 8,
+    .loops_tagged = true,
 };
 
 uint8_t model_no(enum model_reason reason) {

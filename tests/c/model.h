@@ -39,11 +39,13 @@ enum model_reason {
     MODEL_CUT_IN_LOOPS,
     MODEL_LOWEST_SAMPLE,
     MODEL_OTHER_LENGTH,
+    MODEL_WRONG_TAG,
+    MODEL_CUT_IN_TAG,
     MODEL_REASONS
 };
 
-/* How far back a register is read: `near` and `oldest` go to the output and on to the next register, where the product
- * of the two factors goes too; `own` comes back to the register itself. */
+/* How far back a register of Trivium or TRIAD is read: `near` and `oldest` go to the output and on to the next
+ * register, where the product of the two factors goes too; `own` comes back to the register itself. */
 struct model_taps {
     unsigned near, oldest, factor, other_factor, own;
 };
@@ -57,9 +59,13 @@ struct model_rules {
     struct model_taps taps[MODEL_REGISTERS];
     uint8_t box[MODEL_BOX];
     unsigned boxed[MODEL_BOXED];
+    struct model_taps triad_taps[MODEL_REGISTERS];
+    unsigned triad_product; /* where b and c are read for the one product of both */
     uint8_t number[MODEL_REASONS];
     size_t lacks_besides; /* what a cut file lacks besides the bytes of the count or body that it ends in */
     int lowest_opened;    /* the lowest sample that opening writes */
+    size_t tag_compared;  /* how many bytes of a file's tag opening looks at */
+    bool loops_tagged;    /* whether the loop section is among the associated data */
 };
 
 extern struct model_rules model_rules;
@@ -103,13 +109,30 @@ uint8_t model_enocoro_s8(uint8_t x);
 void model_enocoro_read_record(struct model_enocoro *enocoro, const uint8_t *record);
 void model_enocoro_write_record(uint8_t *record, const struct model_enocoro *enocoro);
 
-/* What packs may be under, each in the same words: its lengths, and a generator that is started, put into a record and
- * taken out of one. */
-enum { MODEL_TRIVIUM, MODEL_ENOCORO, MODEL_CIPHERS };
+/* TRIAD, one bit a step. Registers are arrays of bits with the paper's own indices, from 1, the newest bit, on. */
+struct model_triad {
+    uint8_t a[81], b[89], c[89];
+};
+
+/* TRIAD-SC up to the first byte of its keystream, and that byte and on. */
+void model_triad_start(struct model_triad *triad, const uint8_t key[16], const uint8_t nonce[12]);
+uint8_t model_triad_next_byte(struct model_triad *triad);
+void model_triad_read_record(struct model_triad *triad, const uint8_t *record);
+void model_triad_write_record(uint8_t *record, const struct model_triad *triad);
+/* TRIAD-MAC: the tag, of 8 bytes. */
+void model_triad_mac(uint8_t *tag, const uint8_t *key, const uint8_t *nonce,
+                     const uint8_t *associated, size_t associated_length,
+                     const uint8_t *message, size_t message_length);
+
+/* What packs may be under, each in the same words: its lengths, a generator that is started, put into a record and
+ * taken out of one, and its tag, if it has one. */
+enum { MODEL_TRIVIUM, MODEL_ENOCORO, MODEL_TRIAD, MODEL_CIPHERS };
+enum { MODEL_TAG_MOST = 8 };
 
 union model_generator {
     struct model_trivium trivium;
     struct model_enocoro enocoro;
+    struct model_triad triad;
 };
 
 struct model_cipher {
@@ -117,17 +140,23 @@ struct model_cipher {
     uint8_t key_count; /* what a pack under it says: so many bytes are a key number and an initial value */
     size_t record_bytes, key_bytes, value_bytes;
     size_t keys_at; /* where its four keys begin among all keys */
+    size_t tag_bytes; /* of the tag that its packs end with; 0 if they have none */
     /* Up to the first byte of its keystream, and that byte and on. */
     void (*start)(union model_generator *generator, const uint8_t *key, const uint8_t *value);
     uint8_t (*next_byte)(union model_generator *generator);
     void (*read_record)(union model_generator *generator, const uint8_t *record);
     void (*write_record)(uint8_t *record, const union model_generator *generator);
+    void (*tag)(uint8_t *tag, const uint8_t *key, const uint8_t *value,
+                const uint8_t *associated, size_t associated_length,
+                const uint8_t *message, size_t message_length);
 };
 
 extern const struct model_cipher model_ciphers[MODEL_CIPHERS];
 /* Which of them has this key count; MODEL_CIPHERS if none has it. */
 unsigned model_cipher_of(uint32_t key_count);
-/* Its generator, started under one of its four keys. */
+/* One of its four keys. */
+const uint8_t *model_cipher_key(const struct model_cipher *cipher, const uint8_t *keys, size_t key_number);
+/* Its generator, started under one of these. */
 void model_cipher_start(union model_generator *generator, const struct model_cipher *cipher, const uint8_t *keys,
                         size_t key_number, const uint8_t *value);
 
@@ -152,6 +181,17 @@ uint8_t model_enocoro_make(uint8_t *cipher, size_t cipher_length,
 uint8_t model_enocoro_encipher(uint8_t *cipher, size_t cipher_length,
                                const uint8_t *input, size_t input_length,
                                uint8_t *output, size_t output_length);
+uint8_t model_triad_make(uint8_t *cipher, size_t cipher_length,
+                         const uint8_t *key, size_t key_length,
+                         const uint8_t *nonce, size_t nonce_length);
+uint8_t model_triad_encipher(uint8_t *cipher, size_t cipher_length,
+                             const uint8_t *input, size_t input_length,
+                             uint8_t *output, size_t output_length);
+uint8_t model_triad_tag(const uint8_t *key, size_t key_length,
+                        const uint8_t *nonce, size_t nonce_length,
+                        const uint8_t *associated, size_t associated_length,
+                        const uint8_t *message, size_t message_length,
+                        uint8_t *tag, size_t tag_length);
 uint8_t model_pack_open(const uint8_t *file, size_t file_length,
                         const uint8_t *keys, size_t keys_length,
                         int16_t *samples, size_t sample_room,

@@ -35,6 +35,22 @@ static void write_enocoro(uint8_t *record, const union model_generator *generato
     model_enocoro_write_record(record, &generator->enocoro);
 }
 
+static void start_triad(union model_generator *generator, const uint8_t *key, const uint8_t *value) {
+    model_triad_start(&generator->triad, key, value);
+}
+
+static uint8_t next_of_triad(union model_generator *generator) {
+    return model_triad_next_byte(&generator->triad);
+}
+
+static void read_triad(union model_generator *generator, const uint8_t *record) {
+    model_triad_read_record(&generator->triad, record);
+}
+
+static void write_triad(uint8_t *record, const union model_generator *generator) {
+    model_triad_write_record(record, &generator->triad);
+}
+
 const struct model_cipher model_ciphers[MODEL_CIPHERS] = {
     [MODEL_TRIVIUM] = {
         .name = "Trivium", .key_count = 11, .record_bytes = 48, .key_bytes = 10, .value_bytes = 10, .keys_at = 0,
@@ -46,6 +62,11 @@ const struct model_cipher model_ciphers[MODEL_CIPHERS] = {
         .start = start_enocoro, .next_byte = next_of_enocoro,
         .read_record = read_enocoro, .write_record = write_enocoro,
     },
+    [MODEL_TRIAD] = {
+        .name = "TRIAD", .key_count = 13, .record_bytes = 48, .key_bytes = 16, .value_bytes = 12, .keys_at = 104,
+        .tag_bytes = 8, .start = start_triad, .next_byte = next_of_triad,
+        .read_record = read_triad, .write_record = write_triad, .tag = model_triad_mac,
+    },
 };
 
 unsigned model_cipher_of(uint32_t key_count) {
@@ -54,9 +75,13 @@ unsigned model_cipher_of(uint32_t key_count) {
     return which;
 }
 
+const uint8_t *model_cipher_key(const struct model_cipher *cipher, const uint8_t *keys, size_t key_number) {
+    return keys + cipher->keys_at + cipher->key_bytes * key_number;
+}
+
 void model_cipher_start(union model_generator *generator, const struct model_cipher *cipher, const uint8_t *keys,
                         size_t key_number, const uint8_t *value) {
-    cipher->start(generator, keys + cipher->keys_at + cipher->key_bytes * key_number, value);
+    cipher->start(generator, model_cipher_key(cipher, keys, key_number), value);
 }
 
 static uint8_t make(const struct model_cipher *cipher, uint8_t *record, size_t record_length,
@@ -105,4 +130,29 @@ uint8_t model_enocoro_encipher(uint8_t *cipher, size_t cipher_length,
                                const uint8_t *input, size_t input_length,
                                uint8_t *output, size_t output_length) {
     return encipher(&model_ciphers[MODEL_ENOCORO], cipher, cipher_length, input, input_length, output, output_length);
+}
+
+uint8_t model_triad_make(uint8_t *cipher, size_t cipher_length,
+                         const uint8_t *key, size_t key_length,
+                         const uint8_t *nonce, size_t nonce_length) {
+    return make(&model_ciphers[MODEL_TRIAD], cipher, cipher_length, key, key_length, nonce, nonce_length);
+}
+
+uint8_t model_triad_encipher(uint8_t *cipher, size_t cipher_length,
+                             const uint8_t *input, size_t input_length,
+                             uint8_t *output, size_t output_length) {
+    return encipher(&model_ciphers[MODEL_TRIAD], cipher, cipher_length, input, input_length, output, output_length);
+}
+
+uint8_t model_triad_tag(const uint8_t *key, size_t key_length,
+                        const uint8_t *nonce, size_t nonce_length,
+                        const uint8_t *associated, size_t associated_length,
+                        const uint8_t *message, size_t message_length,
+                        uint8_t *tag, size_t tag_length) {
+    const struct model_cipher *triad = &model_ciphers[MODEL_TRIAD];
+    if (key_length != triad->key_bytes) return model_no(MODEL_BAD_KEY);
+    if (nonce_length != triad->value_bytes) return model_no(MODEL_BAD_VALUE);
+    if (tag_length < triad->tag_bytes) return model_no(MODEL_NO_ROOM);
+    model_triad_mac(tag, key, nonce, associated, associated_length, message, message_length);
+    return 0;
 }

@@ -3,7 +3,10 @@
 
 #include "model.h"
 
-enum { KEYS_BYTES = 4 * 10 + 4 * 16, KEYS = 4, LOOP_BYTES = 8 };
+enum { KEYS_BYTES = 4 * 10 + 4 * 16 + 4 * 16, KEYS = 4, LOOP_BYTES = 8 };
+/* Of a file with a tag, all sections but the samples' and the tag's, and the sample count. */
+enum { ASSOCIATED_MOST = (1 + 32) + (1 + 13) + 4 + (1 + 8 * LOOP_BYTES) };
+enum { BODY_MOST = 2 * SEMIVRAKH_SAMPLES_MOST };
 
 /* Where the reader stands, and the first thing that it found wrong. */
 struct reader {
@@ -94,12 +97,21 @@ static void read_loops(struct reader *reader, size_t samples, size_t *count, siz
     }
 }
 
-/* What a file says of itself: the seven numbers by the header's index, its cipher, and where its samples stand. If it
- * is cut, what it lacks. */
+/* The fifth section, which only some ciphers' files have. Its count is that of the tag, or it is no tag section. */
+static void read_tag(struct reader *reader, const struct model_cipher *cipher, const uint8_t **tag) {
+    *tag = NULL;
+    if (reader->refusal != 0 || cipher->tag_bytes == 0) return;
+    reader->cut = MODEL_CUT_IN_TAG;
+    if (take_count(reader, 1) != cipher->tag_bytes) refuse(reader, MODEL_CUT_IN_TAG);
+    *tag = take(reader, cipher->tag_bytes);
+}
+
+/* What a file says of itself: the seven numbers by the header's index, its cipher, where its samples stand, and its
+ * tag, if it has one. If it is cut, what it lacks. */
 struct pack {
     size_t numbers[SEMIVRAKH_OPENED_NUMBERS];
     const struct model_cipher *cipher;
-    const uint8_t *enciphered;
+    const uint8_t *enciphered, *tag;
     size_t lacks;
 };
 
@@ -111,6 +123,7 @@ static uint8_t read_pack(struct pack *pack, const uint8_t *file, size_t file_len
     read_key(&reader, &pack->cipher, &numbers[SEMIVRAKH_OPENED_KEY], &numbers[SEMIVRAKH_OPENED_VALUE_AT]);
     read_samples(&reader, samples, &pack->enciphered);
     read_loops(&reader, *samples, &numbers[SEMIVRAKH_OPENED_LOOPS], &numbers[SEMIVRAKH_OPENED_LOOPS_AT]);
+    read_tag(&reader, pack->cipher, &pack->tag);
     if (reader.at != file_length) refuse(&reader, MODEL_MORE_BYTES);
     pack->lacks = reader.lacks;
     return reader.refusal;
@@ -154,27 +167,54 @@ static int16_t sample_of(int word) {
     return (int16_t)(word < model_rules.lowest_opened ? model_rules.lowest_opened : word);
 }
 
+/* The tag of a file's sections, under its key, for its plain samples. Name, key, sample count and loops stand in the
+ * file as they are tagged, the first three before the samples and the loops behind them. */
+static void tag_of(uint8_t *tag, const struct model_cipher *cipher, const uint8_t *key, const uint8_t *value,
+                   const uint8_t *file, size_t samples_at, size_t sample_count, size_t loop_count,
+                   const uint8_t *plain) {
+    uint8_t associated[ASSOCIATED_MOST];
+    size_t behind = model_rules.loops_tagged ? 1 + LOOP_BYTES * loop_count : 0;
+    memcpy(associated, file, samples_at);
+    memcpy(associated + samples_at, file + samples_at + 2 * sample_count, behind);
+    cipher->tag(tag, key, value, associated, samples_at + behind, plain, 2 * sample_count);
+}
+
+/* A file without a tag has none that is wrong. */
+static bool tag_agrees(const struct pack *pack, const uint8_t *file, const uint8_t *keys, const uint8_t *plain) {
+    uint8_t tag[MODEL_TAG_MOST];
+    const size_t *numbers = pack->numbers;
+    if (pack->tag == NULL) return true;
+    tag_of(tag, pack->cipher, model_cipher_key(pack->cipher, keys, numbers[SEMIVRAKH_OPENED_KEY]),
+           file + numbers[SEMIVRAKH_OPENED_VALUE_AT], file, (size_t)(pack->enciphered - file),
+           numbers[SEMIVRAKH_OPENED_SAMPLES], numbers[SEMIVRAKH_OPENED_LOOPS], plain);
+    return memcmp(tag, pack->tag, model_rules.tag_compared) == 0;
+}
+
+static void decipher(uint8_t *plain, const struct pack *pack, const uint8_t *file, const uint8_t *keys) {
+    union model_generator generator;
+    model_cipher_start(&generator, pack->cipher, keys, pack->numbers[SEMIVRAKH_OPENED_KEY],
+                       file + pack->numbers[SEMIVRAKH_OPENED_VALUE_AT]);
+    for (size_t i = 0; i < 2 * pack->numbers[SEMIVRAKH_OPENED_SAMPLES]; i++) {
+        plain[i] = pack->enciphered[i] ^ pack->cipher->next_byte(&generator);
+    }
+}
+
 uint8_t model_pack_open(const uint8_t *file, size_t file_length,
                         const uint8_t *keys, size_t keys_length,
                         int16_t *samples, size_t sample_room,
                         size_t *answer, size_t answer_room) {
+    static uint8_t plain[BODY_MOST];
     struct pack pack;
     if (keys_length != KEYS_BYTES) return model_no(MODEL_BAD_KEY);
     uint8_t no = read_pack(&pack, file, file_length);
     if (no != 0) return no;
+    decipher(plain, &pack, file, keys);
+    if (!tag_agrees(&pack, file, keys, plain)) return model_no(MODEL_WRONG_TAG);
     size_t count = pack.numbers[SEMIVRAKH_OPENED_SAMPLES];
     if (sample_room < count) return model_no(MODEL_NO_ROOM);
     no = model_answer(answer, answer_room, pack.numbers, SEMIVRAKH_OPENED_NUMBERS);
     if (no != 0) return no;
-
-    union model_generator generator;
-    model_cipher_start(&generator, pack.cipher, keys, pack.numbers[SEMIVRAKH_OPENED_KEY],
-                       file + pack.numbers[SEMIVRAKH_OPENED_VALUE_AT]);
-    for (size_t i = 0; i < count; i++) {
-        unsigned high = pack.enciphered[2 * i] ^ pack.cipher->next_byte(&generator);
-        unsigned low = pack.enciphered[2 * i + 1] ^ pack.cipher->next_byte(&generator);
-        samples[i] = sample_of(signed_word(high, low));
-    }
+    for (size_t i = 0; i < count; i++) samples[i] = sample_of(signed_word(plain[2 * i], plain[2 * i + 1]));
     return 0;
 }
 
@@ -233,8 +273,14 @@ uint8_t model_pack_seal(const uint8_t *name, size_t name_length,
     if (loop_numbers > 2 * SEMIVRAKH_LOOPS_MOST || loop_numbers % 2 != 0) return model_no(MODEL_MANY_LOOPS);
     if (!loops_allowed(loops, loop_numbers, sample_count)) return model_no(MODEL_BAD_LOOP);
     size_t length = (1 + name_length) + (1u + key_count) + (4 + 2 * sample_count) + (1 + 4 * loop_numbers);
+    if (cipher->tag_bytes > 0) length += 1 + cipher->tag_bytes;
     if (output_length < length) return model_no(MODEL_NO_ROOM);
 
+    static uint8_t plain[BODY_MOST];
+    for (size_t i = 0; i < sample_count; i++) {
+        unsigned word = samples[i] < 0 ? (unsigned)(samples[i] + 65536) : (unsigned)samples[i];
+        model_write_number(plain + 2 * i, 2, word);
+    }
     struct writer writer = {.output = output};
     put_number(&writer, 1, (uint32_t)name_length);
     put_bytes(&writer, name, name_length);
@@ -242,15 +288,19 @@ uint8_t model_pack_seal(const uint8_t *name, size_t name_length,
     put_number(&writer, 1, key_number);
     put_bytes(&writer, value, value_length);
     put_number(&writer, 4, (uint32_t)sample_count);
+    size_t samples_at = writer.at;
     union model_generator generator;
     model_cipher_start(&generator, cipher, keys, key_number, value);
-    for (size_t i = 0; i < sample_count; i++) {
-        unsigned word = samples[i] < 0 ? (unsigned)(samples[i] + 65536) : (unsigned)samples[i];
-        put_number(&writer, 1, (word / 256) ^ cipher->next_byte(&generator));
-        put_number(&writer, 1, (word % 256) ^ cipher->next_byte(&generator));
-    }
+    for (size_t i = 0; i < 2 * sample_count; i++) put_number(&writer, 1, plain[i] ^ cipher->next_byte(&generator));
     put_number(&writer, 1, (uint32_t)(loop_numbers / 2));
     for (size_t i = 0; i < loop_numbers; i++) put_number(&writer, 4, loops[i]);
+    if (cipher->tag_bytes > 0) {
+        uint8_t tag[MODEL_TAG_MOST];
+        tag_of(tag, cipher, model_cipher_key(cipher, keys, key_number), value, output, samples_at, sample_count,
+               loop_numbers / 2, plain);
+        put_number(&writer, 1, (uint32_t)cipher->tag_bytes);
+        put_bytes(&writer, tag, cipher->tag_bytes);
+    }
     *file_length = writer.at;
     return 0;
 }

@@ -6,7 +6,7 @@ programs=(compare line header)
 build_programs() {
     local folder=$1 library=$2 here=$house/tests/c
     local flags=(-O2 -Wall -Wextra -Werror -I "$house/include" -I "$here" "${@:3}")
-    local model=(model model_cipher model_trivium model_enocoro model_pack model_link)
+    local model=(model model_cipher model_trivium model_enocoro model_triad model_pack model_link)
     local comparing=(compare compare_cipher compare_pack compare_link compare_records compare_transfers
         calls faults lend link_input options random vectors)
     local lining=(line line_ends options random)

@@ -8,16 +8,21 @@
  * for it, after all samples were looked at; of a sound of any length, and with such a sample at any place, there is no
  * second one.
  *
+ * Likewise one thing is told of a key and a sound together: whether opening finds the tag of a pack under TRIAD to be
+ * theirs. So opening has one jump for that, and its number may be made of it; of a pack of any length, and with a tag
+ * that is wrong at any byte, there is no second one, so nobody learns from the time where a guessed tag is right. All
+ * else that TRIAD does, it does without a table and without a jump.
+ *
  * Enocoro is another matter. Its box S8 is a table that is read at bytes of the state, and so at places that a key
  * says: that address does depend on a key, and how long the reading takes is left to the caches, of which nothing is
  * tested here. Memcheck reports each such read ("use of uninitialised value of size 8"), and then takes what was read
  * for as public as the table is, so behind the box it would lose sight of the key. So while keys are hidden, the table
  * is marked as well: what comes out of it is secret then. The reports of these addresses, in the two functions that
- * read the table, are kept back by secrets.supp, and counted by the script. All else is tested of Enocoro's calls as it is of the others: no jump
- * and no other address depends on a key, and none at all on a sound but the jump for 34.
+ * read the table, are kept back by secrets.supp, and counted by the script. All else is tested of Enocoro's calls as it
+ * is of the others: no jump and no other address depends on a key, and none at all on a sound but the jump for 34.
  *
- * secrets [--broken (branch | address | answer | search | stream)]: prints one line, and before it whatever it found.
- * Exit status 1 if it found anything.
+ * secrets [--broken (branch | address | answer | search | stream | tag)]: prints one line, and before it whatever it
+ * found. Exit status 1 if it found anything.
  */
 #define _GNU_SOURCE /* for dl_iterate_phdr */
 #include <link.h>
@@ -32,26 +37,31 @@
 
 enum { PAIR_AT = 10, HEAD_BYTES = 8, STREAM_MOST = 2000, NAME_BYTES = 5, KEY_NUMBER = 2 };
 
-enum { KEY_MOST = SEMIVRAKH_ENOCORO_KEY_BYTES, VALUE_MOST = SEMIVRAKH_VALUE_BYTES };
+enum { KEY_MOST = SEMIVRAKH_ENOCORO_KEY_BYTES, VALUE_MOST = SEMIVRAKH_TRIAD_NONCE_BYTES };
 enum { RECORD_MOST = SEMIVRAKH_CIPHER_BYTES };
 
-/* A cipher: its number in packs, its lengths and its calls. */
+/* A cipher: its number in packs, its lengths, of the tag too if it has one, and its calls. */
 struct cipher {
     const char *name;
     uint8_t number;
-    size_t key_bytes, value_bytes, record_bytes;
+    size_t key_bytes, value_bytes, record_bytes, tag_bytes;
     const char *make_name, *encipher_name;
     uint8_t (*make)(uint8_t *, size_t, const uint8_t *, size_t, const uint8_t *, size_t);
     uint8_t (*encipher)(uint8_t *, size_t, const uint8_t *, size_t, uint8_t *, size_t);
 };
 
 static const struct cipher trivium = {
-    "Trivium", SEMIVRAKH_TRIVIUM, SEMIVRAKH_KEY_BYTES, SEMIVRAKH_VALUE_BYTES, SEMIVRAKH_CIPHER_BYTES,
+    "Trivium", SEMIVRAKH_TRIVIUM, SEMIVRAKH_KEY_BYTES, SEMIVRAKH_VALUE_BYTES, SEMIVRAKH_CIPHER_BYTES, 0,
     "semivrakh_cipher_make", "semivrakh_cipher_encipher", semivrakh_cipher_make, semivrakh_cipher_encipher,
 };
 static const struct cipher enocoro = {
     "Enocoro", SEMIVRAKH_ENOCORO, SEMIVRAKH_ENOCORO_KEY_BYTES, SEMIVRAKH_ENOCORO_VALUE_BYTES, SEMIVRAKH_ENOCORO_BYTES,
-    "semivrakh_enocoro_make", "semivrakh_enocoro_encipher", semivrakh_enocoro_make, semivrakh_enocoro_encipher,
+    0, "semivrakh_enocoro_make", "semivrakh_enocoro_encipher", semivrakh_enocoro_make, semivrakh_enocoro_encipher,
+};
+static const struct cipher triad = {
+    "TRIAD", SEMIVRAKH_TRIAD, SEMIVRAKH_TRIAD_KEY_BYTES, SEMIVRAKH_TRIAD_NONCE_BYTES, SEMIVRAKH_TRIAD_BYTES,
+    SEMIVRAKH_TAG_BYTES, "semivrakh_triad_make", "semivrakh_triad_encipher", semivrakh_triad_make,
+    semivrakh_triad_encipher,
 };
 
 /* The one that the calls are under now. */
@@ -61,6 +71,7 @@ static const struct cipher *under;
 static bool keys_hidden, sounds_hidden;
 static unsigned calls, faults, errors_before;
 static unsigned jumps_allowed; /* in the coming call */
+static bool verdict_allowed;   /* the coming call's number may depend on a secret */
 
 static const char *hidden_words(void) {
     return keys_hidden ? "a key" : "a sound";
@@ -119,7 +130,8 @@ static void secret_bytes(const char *call, const void *bytes, size_t length) {
 static void called(const char *call, uint8_t expected, uint8_t no) {
     calls++;
     look(call);
-    public_bytes(call, &no, sizeof no);
+    if (!verdict_allowed) public_bytes(call, &no, sizeof no);
+    verdict_allowed = false;
     VALGRIND_MAKE_MEM_DEFINED(&no, sizeof no);
     if (no == expected) return;
     faults++;
@@ -189,19 +201,48 @@ static void cipher(size_t length) {
     if (!keys_hidden) public_bytes(under->encipher_name, record, record_bytes);
 }
 
+/* The tag of a message and of data, which are hidden with the sounds: each byte of it is made of all bytes of these. */
+static void tag(size_t associated_length, size_t message_length) {
+    uint8_t key[KEY_MOST], nonce[VALUE_MOST], made[SEMIVRAKH_TAG_BYTES];
+    static uint8_t associated[STREAM_MOST], message[STREAM_MOST];
+    new_key(key, triad.key_bytes);
+    random_fill(nonce, triad.value_bytes);
+    new_sound(associated, associated_length);
+    new_sound(message, message_length);
+    CALL(1, semivrakh_triad_tag, key, triad.key_bytes - 1, nonce, triad.value_bytes, associated, associated_length,
+         message, message_length, made, sizeof made);
+    CALL(19, semivrakh_triad_tag, key, triad.key_bytes, nonce, triad.value_bytes, associated, associated_length,
+         message, message_length, made, sizeof made - 1);
+    CALL(0, semivrakh_triad_tag, key, triad.key_bytes, nonce, triad.value_bytes, associated, associated_length,
+         message, message_length, made, sizeof made);
+    if (keys_hidden || associated_length + message_length > 0) secret_bytes("semivrakh_triad_tag", made, sizeof made);
+}
+
+static void tags(void) {
+    for (size_t associated = 0; associated <= 20; associated++) tag(associated, 20 - associated);
+    for (size_t message = 0; message <= 20; message++) tag(0, message);
+    tag(STREAM_MOST, STREAM_MOST);
+}
+
 /* Packs */
+
+/* Whether a pack of so many samples has a tag that is made of what is hidden. */
+static bool tag_is_hidden(size_t samples) {
+    return under->tag_bytes > 0 && (keys_hidden || samples > 0);
+}
 
 /* Where the samples of a pack begin. */
 static size_t body_at(void) {
     return 1 + NAME_BYTES + 2 + under->value_bytes + 4;
 }
 
-/* Of a file, all but its samples can be read by anybody. */
+/* Of a file, all but its samples and the tag can be read by anybody. */
 static void look_at_file(const uint8_t *file, size_t length, size_t samples) {
-    size_t behind = body_at() + 2 * samples;
+    size_t behind = body_at() + 2 * samples, tag_at = length - under->tag_bytes;
     public_bytes("semivrakh_pack_seal", file, body_at());
     secret_bytes("semivrakh_pack_seal", file + body_at(), 2 * samples);
-    public_bytes("semivrakh_pack_seal", file + behind, length - behind);
+    public_bytes("semivrakh_pack_seal", file + behind, tag_at - behind);
+    if (tag_is_hidden(samples)) secret_bytes("semivrakh_pack_seal", file + tag_at, under->tag_bytes);
 }
 
 /* What a file lacks is public as well. */
@@ -223,14 +264,19 @@ static void survey_cut(const uint8_t *file, size_t samples) {
     lacks(file, cut, samples);
 }
 
+/* What is said of a file without its last byte. */
+static uint8_t number_of_cut(void) {
+    return under->tag_bytes > 0 ? SEMIVRAKH_CUT_IN_TAG : SEMIVRAKH_CUT_IN_LOOPS;
+}
+
 /* What a file says of itself is public, and no key is lent for it. */
 static void survey(const uint8_t *file, size_t length) {
     size_t answer[SEMIVRAKH_OPENED_NUMBERS], loop_numbers = 0;
     uint32_t loops[2 * SEMIVRAKH_LOOPS_MOST];
-    CALL(33, semivrakh_pack_survey, file, length - 1, answer, SEMIVRAKH_OPENED_NUMBERS);
+    CALL(number_of_cut(), semivrakh_pack_survey, file, length - 1, answer, SEMIVRAKH_OPENED_NUMBERS);
     CALL(0, semivrakh_pack_survey, file, length, answer, SEMIVRAKH_OPENED_NUMBERS);
     public_bytes("semivrakh_pack_survey", answer, sizeof answer);
-    CALL(33, semivrakh_pack_loops, file, length - 1, loops, 2 * SEMIVRAKH_LOOPS_MOST, &loop_numbers);
+    CALL(number_of_cut(), semivrakh_pack_loops, file, length - 1, loops, 2 * SEMIVRAKH_LOOPS_MOST, &loop_numbers);
     CALL(0, semivrakh_pack_loops, file, length, loops, 2 * SEMIVRAKH_LOOPS_MOST, &loop_numbers);
     public_bytes("semivrakh_pack_loops", loops, loop_numbers * sizeof *loops);
     lacks(file, length - 1, 1);
@@ -240,6 +286,30 @@ static void survey(const uint8_t *file, size_t length) {
 /* The coming call seals so many samples, and may tell of them whether one is -32,768. */
 static void one_jump_for(size_t samples) {
     jumps_allowed = sounds_hidden && samples > 0 ? 1 : 0;
+}
+
+/* The coming call opens a file of so many samples, and may tell of its tag whether it is right. */
+static void one_verdict_for(size_t samples) {
+    jumps_allowed = tag_is_hidden(samples) ? 1 : 0;
+    verdict_allowed = tag_is_hidden(samples);
+}
+
+static void open_wrong_tag(uint8_t *file, size_t length, const uint8_t *keys, size_t samples, size_t wrong_at) {
+    static int16_t opened[SEMIVRAKH_SAMPLES_MOST];
+    size_t answer[SEMIVRAKH_OPENED_NUMBERS];
+    uint8_t *wrong = file + length - under->tag_bytes + wrong_at, turned = (uint8_t)(1 << wrong_at);
+    *wrong ^= turned;
+    one_verdict_for(samples);
+    CALL(38, semivrakh_pack_open, file, length, keys, SEMIVRAKH_KEYS_BYTES, opened, samples, answer,
+         SEMIVRAKH_OPENED_NUMBERS);
+    *wrong ^= turned;
+}
+
+/* A file whose tag is wrong in one byte: whichever it is, no more is told. Of a large one the first and the last byte
+ * are enough. */
+static void open_wrong_tags(uint8_t *file, size_t length, const uint8_t *keys, size_t samples) {
+    size_t apart = samples < SEMIVRAKH_SAMPLES_MOST ? 1 : under->tag_bytes - 1;
+    for (size_t i = 0; i < under->tag_bytes; i += apart) open_wrong_tag(file, length, keys, samples, i);
 }
 
 static void pack(size_t samples) {
@@ -260,8 +330,10 @@ static void pack(size_t samples) {
          value, under->value_bytes, sound, samples, loops, loop_numbers, file, sizeof file, &length);
     public_bytes("semivrakh_pack_seal", &length, sizeof length);
     look_at_file(file, length, samples);
-    CALL(33, semivrakh_pack_open, file, length - 1, keys, sizeof keys, opened, samples, answer,
+    CALL(number_of_cut(), semivrakh_pack_open, file, length - 1, keys, sizeof keys, opened, samples, answer,
          SEMIVRAKH_OPENED_NUMBERS);
+    open_wrong_tags(file, length, keys, samples);
+    one_verdict_for(samples);
     CALL(0, semivrakh_pack_open, file, length, keys, sizeof keys, opened, samples, answer, SEMIVRAKH_OPENED_NUMBERS);
     public_bytes("semivrakh_pack_open", answer, sizeof answer);
     secret_bytes("semivrakh_pack_open", opened, 2 * samples);
@@ -368,6 +440,8 @@ static void calls_under(const struct cipher *cipher_now) {
 static void all_calls(void) {
     hide_table_with_keys();
     calls_under(&enocoro);
+    calls_under(&triad);
+    tags();
     calls_under(&trivium);
     for (size_t length = 0; length <= 130; length += 13) transfer(length, length);
     transfer(65, 64);
@@ -384,9 +458,17 @@ static uint8_t keystream_byte(void) {
     return byte;
 }
 
+/* The tag of nothing under a key of TRIAD. */
+static void tag_of_nothing(uint8_t made[SEMIVRAKH_TAG_BYTES]) {
+    uint8_t key[SEMIVRAKH_TRIAD_KEY_BYTES];
+    const uint8_t zeros[SEMIVRAKH_TRIAD_NONCE_BYTES] = {0};
+    new_key(key, sizeof key);
+    CALL(0, semivrakh_triad_tag, key, sizeof key, zeros, sizeof zeros, NULL, 0, NULL, 0, made, SEMIVRAKH_TAG_BYTES);
+}
+
 /* What a test of this test does wrong: a loop that takes as long as a key says, a place in a table that a key says, an
- * answer that a key says, where one jump is allowed, a search that stops where it finds something, and a jump by what
- * comes out of Enocoro's box. */
+ * answer that a key says, where one jump is allowed, a search that stops where it finds something, a jump by what comes
+ * out of Enocoro's box, and a tag that is compared up to the first byte that differs, where one jump is allowed. */
 static void broken(const char *what) {
     static volatile uint8_t table[256];
     uint8_t key, many_keys[20];
@@ -401,6 +483,13 @@ static void broken(const char *what) {
         for (size_t i = 0; i < sizeof many_keys && many_keys[i] != key; i++) table[0]++;
     }
     if (strcmp(what, "stream") == 0 && keystream_byte() > 127) table[0]++;
+    if (strcmp(what, "tag") == 0) {
+        uint8_t made[SEMIVRAKH_TAG_BYTES], same[SEMIVRAKH_TAG_BYTES];
+        tag_of_nothing(made);
+        memcpy(same, made, sizeof same);
+        jumps_allowed = 1;
+        for (size_t i = 0; i < sizeof made && made[i] == same[i]; i++) table[0]++;
+    }
     look("a call that is broken on purpose");
     if (strcmp(what, "answer") == 0) public_bytes("a call that is broken on purpose", &key, sizeof key);
 }
@@ -421,7 +510,7 @@ int main(int words, char **word) {
         if (words == 3 && keys_hidden) broken(word[2]);
     }
     if (faults > 0) printf("secrets: %u calls, and %u times something depends on a key or a sound\n", calls, faults);
-    else printf("secrets: %u calls, no branch and no address depends on a key or a sound, but the one for 34"
+    else printf("secrets: %u calls, no branch and no address depends on a key or a sound, but the ones for 34 and 38"
                 " and the place in Enocoro's table\n", calls);
     return faults > 0;
 }

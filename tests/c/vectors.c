@@ -6,9 +6,13 @@
 
 #include "model.h"
 
-static void fail_vector(const char *where, const char *what) {
-    printf("FAILED: the model is not held to %s of ISO/IEC 29192-3: %s\n", where, what);
+static void fail(const char *paper, const char *where, const char *what) {
+    printf("FAILED: the model is not held to %s of %s: %s\n", where, paper, what);
     exit(1);
+}
+
+static void fail_vector(const char *where, const char *what) {
+    fail("ISO/IEC 29192-3", where, what);
 }
 
 /* Trivium, annex B.3: first bit of a byte as its most significant. */
@@ -205,9 +209,37 @@ static void check_box(void) {
     }
 }
 
+/* TRIAD-AE, annex A.1 of its own paper: key and nonce count up from 0, and what it calls CT is the message under the
+ * keystream, and then the tag. Of the first vector message and associated data are empty, of the second a zero each. */
+static const struct {
+    size_t message_length, associated_length;
+    uint8_t stream[1], tag[8];
+} printed_tags[] = {
+    {0, 0, {0}, {0xD1, 0x6D, 0xCC, 0xA6, 0xB3, 0x34, 0xCB, 0x84}},
+    {1, 1, {0xF5}, {0xD4, 0x1A, 0xF0, 0x01, 0xD9, 0xD7, 0x53, 0x67}},
+};
+
+static void check_triad(void) {
+    static const uint8_t counting[16] = {0, 1, 2, 3, 4, 5, 6, 7, 8, 9, 10, 11, 12, 13, 14, 15}, zero[1];
+    for (size_t i = 0; i < sizeof printed_tags / sizeof *printed_tags; i++) {
+        struct model_triad triad;
+        uint8_t tag[8];
+        model_triad_start(&triad, counting, counting);
+        for (size_t j = 0; j < printed_tags[i].message_length; j++) {
+            if (model_triad_next_byte(&triad) != printed_tags[i].stream[j]) {
+                fail("TRIAD v1", "annex A.1", "a keystream");
+            }
+        }
+        model_triad_mac(tag, counting, counting, zero, printed_tags[i].associated_length, zero,
+                        printed_tags[i].message_length);
+        if (memcmp(tag, printed_tags[i].tag, sizeof tag) != 0) fail("TRIAD v1", "annex A.1", "a tag");
+    }
+}
+
 void check_vectors(void) {
     check_trivium();
     check_states();
     check_streams();
     check_box();
+    check_triad();
 }

@@ -1,4 +1,4 @@
-// The body of a pack, apart from its faults: enciphered bytes, read as samples.
+// The body of a pack under Trivium, apart from its faults: enciphered bytes, read as samples.
 ghost use mathlib.Core.Path.{_≡_};
 ghost use Prim.Native.Nat.{_+_, _/_, _≤_};
 ghost use lib.ListN.{length};
@@ -7,7 +7,9 @@ ghost use Rattle.octets.specs.Digits.{digits};
 ghost use Rattle.octets.specs.Stream.{enciphered};
 ghost use Rattle.samples.specs.Words.{swapped, wordsOf};
 ghost use Rattle.body_reader.specs.Unturned.{unturned, turnedFront};
-ghost use Rattle.trivium.specs.Keystream.{keystream};
+ghost use Rattle.ciphers.specs.Calls.{valueFaults};
+ghost use Rattle.refusals.specs.Rules.{settled};
+ghost use Rattle.trivium.specs.Keystream.{keystream, trivium};
 ghost use Rattle.trivium.specs.Record.{state};
 ghost use Rattle.trivium.specs.Registers.{steps};
 use trivium::Registers;
@@ -81,7 +83,7 @@ fn read_rest(registers: Registers, body: &[u8], output: &mut [i16], at: usize, s
 }
 
 // A body deciphered chunk by chunk, and its samples turned, to the front of the output, if its samples have room there.
-pub fn read_samples(start: Registers, body: &[u8], output: &mut [i16])
+fn read_samples(start: Registers, body: &[u8], output: &mut [i16])
     ensures { λ _. ⌜ now (output .exit)
         ≡ put (now (output .entry)) 0 (wordsOf (enciphered (keystream (state start)) (now (body .entry)))) ⌝ }
 {
@@ -97,4 +99,19 @@ pub fn read_samples(start: Registers, body: &[u8], output: &mut [i16])
     }
     turn(output, n / CHUNK * 8);
     read_rest(running.stop(), body, output, at, n % CHUNK);
+}
+
+// A body under a key and an initial value, read as samples to the front of the output, if the value has its length and
+// the samples have room.
+pub fn open_body(key: &[u8; 10], value: &[u8], body: &[u8], output: &mut [i16])
+    ensures { λ _. ⌜ now (output .exit) ≡ settled (valueFaults trivium (now (value .entry)))
+        (put (now (output .entry)) 0
+        (wordsOf (enciphered (trivium .stream (now (key .entry)) (now (value .entry))) (now (body .entry)))))
+        (λ number. now (output .entry)) ⌝ }
+{
+    if value.len() != trivium::VALUE_BYTES {
+        return;
+    }
+    let made = Registers::new(key, value);
+    read_samples(made.registers, body, output);
 }

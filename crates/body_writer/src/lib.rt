@@ -1,4 +1,4 @@
-// The body of a pack, apart from its faults: samples, written as enciphered bytes.
+// The body of a pack under Trivium, apart from its faults: samples, written as enciphered bytes.
 ghost use mathlib.Core.Path.{_≡_};
 ghost use Prim.Native.Nat.{_+_, _%_, _≤_};
 ghost use lib.ListN.{length, drop};
@@ -6,7 +6,9 @@ ghost use Rattle.octets.specs.Buffers.{slice, put};
 ghost use Rattle.octets.specs.Digits.{digits};
 ghost use Rattle.octets.specs.Stream.{enciphered};
 ghost use Rattle.samples.specs.Words.{swapped, bytesOfAll};
-ghost use Rattle.trivium.specs.Keystream.{keystream};
+ghost use Rattle.ciphers.specs.Calls.{valueFaults};
+ghost use Rattle.refusals.specs.Rules.{settled};
+ghost use Rattle.trivium.specs.Keystream.{keystream, trivium};
 ghost use Rattle.trivium.specs.Record.{state};
 ghost use Rattle.trivium.specs.Registers.{steps};
 use trivium::Registers;
@@ -80,9 +82,10 @@ fn cover(registers: Registers, body: &mut [u8])
 
 // All samples, as bytes and enciphered, from `at`, if they have room there. As bytes they are written all at once,
 // which the compiler does eight at a time, and then enciphered.
-pub fn write_samples(registers: Registers, samples: &[i16], output: &mut [u8], at: usize)
+fn write_samples(registers: Registers, samples: &[i16], output: &mut [u8], at: usize)
     ensures { λ _. ⌜ now (output .exit)
-        ≡ put (now (output .entry)) at (enciphered (keystream (state registers)) (bytesOfAll (now (samples .entry)))) ⌝ }
+        ≡ put (now (output .entry)) at (enciphered (keystream (state registers)) (bytesOfAll (now
+        (samples .entry)))) ⌝ }
 {
     let n = 2 * samples.len();
     if output.len() < at {
@@ -94,4 +97,19 @@ pub fn write_samples(registers: Registers, samples: &[i16], output: &mut [u8], a
     sample_runs::write_words(samples, &mut output[at..]);
     let end = at + n;
     cover(registers, &mut output[at..end]);
+}
+
+// Samples under a key and an initial value, as enciphered bytes from `at`, if the value has its length and the bytes
+// have room.
+pub fn seal_body(key: &[u8; 10], value: &[u8], samples: &[i16], output: &mut [u8], at: usize)
+    ensures { λ _. ⌜ now (output .exit) ≡ settled (valueFaults trivium (now (value .entry)))
+        (put (now (output .entry)) at
+        (enciphered (trivium .stream (now (key .entry)) (now (value .entry))) (bytesOfAll (now (samples .entry)))))
+        (λ number. now (output .entry)) ⌝ }
+{
+    if value.len() != trivium::VALUE_BYTES {
+        return;
+    }
+    let made = Registers::new(key, value);
+    write_samples(made.registers, samples, output, at);
 }

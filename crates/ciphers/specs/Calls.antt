@@ -7,11 +7,12 @@ use Rattle.refusals.specs.Numbers.{accepted, badKey, badValue, noRoom}
 use Rattle.refusals.specs.{Outcome.Outcome, Outcome.outcome}
 use Rattle.refusals.specs.Rules.{Fault, _over_, _unlike_, _says_, settled}
 
+-- an initial value of another length, for one who has a key of the right one
+abbrev pub valueFaults : Cipher → List ℕ → List Fault
+valueFaults cipher iv = (length iv unlike cipher .valueBytes says badValue) ∷ []
+
 abbrev pub makeFaults : Cipher → List ℕ → List ℕ → List Fault
-makeFaults cipher key iv =
-    (length key unlike cipher .keyBytes says badKey)
-    ∷ (length iv unlike cipher .valueBytes says badValue)
-    ∷ []
+makeFaults cipher key iv = (length key unlike cipher .keyBytes says badKey) ∷ valueFaults cipher iv
 
 abbrev pub encipherFaults : List ℕ → List ℕ → List Fault
 encipherFaults input output = (length input over length output says noRoom) ∷ []

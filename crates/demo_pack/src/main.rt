@@ -5,12 +5,14 @@ fn main() {
     let sound = demo_sound::choir();
     let keys = demo_sound::KEYS;
     let rack_keys = demo_sound::RACK_KEYS;
+    let deal_keys = demo_sound::DEAL_KEYS;
     let mut file = demo_sound::room();
     let sealed = sealer::seal(
         Kind::Trivium,
         b"Choir",
         keys,
         rack_keys,
+        deal_keys,
         2,
         b"demo value",
         &sound,

@@ -6,12 +6,14 @@ fn main() {
     let sound = demo_sound::choir();
     let keys = demo_sound::KEYS;
     let rack_keys = demo_sound::RACK_KEYS;
+    let deal_keys = demo_sound::DEAL_KEYS;
     let mut file = demo_sound::room();
     let sealed = sealer::seal(
         Kind::Enocoro,
         b"Rack",
         keys,
         rack_keys,
+        deal_keys,
         1,
         b"demo val",
         &sound,

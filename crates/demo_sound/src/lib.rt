@@ -7,7 +7,7 @@ const SAMPLES: usize = 8192;
 
 const MIDDLE: u32 = 16000;
 
-// Trivium's ring and Enocoro's: a key file has the one behind the other.
+// The rings of Trivium, Enocoro and TRIAD: a key file has one behind the other.
 pub const KEYS: [[u8; 10]; 4] = [
     *b"demo key 0",
     *b"demo key 1",
@@ -22,11 +22,18 @@ pub const RACK_KEYS: [[u8; 16]; 4] = [
     *b"rack demo key 03",
 ];
 
+pub const DEAL_KEYS: [[u8; 16]; 4] = [
+    *b"deal demo key 00",
+    *b"deal demo key 01",
+    *b"deal demo key 02",
+    *b"deal demo key 03",
+];
+
 // Room for the longest pack.
-pub fn room() -> [u8; 32882]
-    ensures { λ r. ⌜ 32882 ≡ length r ⌝ }
+pub fn room() -> [u8; 32893]
+    ensures { λ r. ⌜ 32893 ≡ length r ⌝ }
 {
-    [0; 32882]
+    [0; 32893]
 }
 
 fn silence() -> [i16; 8192]

@@ -1,5 +1,5 @@
 -- Enocoro-128v2's keystream, a byte a round.
-use Rattle.octets.specs.Stream.{Keystream, Cipher}
+use Rattle.octets.specs.Stream.{Keystream, Cipher, untagged}
 use Rattle.enocoro.specs.State.{State, rounds, started}
 
 -- 6.1.4: byte number n is a1 before round n
@@ -8,4 +8,4 @@ keystream s n = rounds n s .a1
 
 -- the keystream of a key of 16 bytes and an initial value of eight
 abbrev pub enocoro : Cipher
-enocoro = record { keyBytes = 16; valueBytes = 8; stream = λ key iv. keystream (started key iv) }
+enocoro = untagged 16 8 (λ key iv. keystream (started key iv))

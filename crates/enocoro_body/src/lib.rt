@@ -1,15 +1,15 @@
-// The bodies of packs under Enocoro, apart from their faults: enciphered bytes, read as samples, and samples, written as
-// enciphered bytes.
+// The bodies of packs under Enocoro, apart from their faults: enciphered bytes, read as samples, and samples, written
+// as enciphered bytes.
 ghost use mathlib.Core.Path.{_≡_};
 ghost use Prim.Native.Nat.{_+_, _/_, _≤_};
 ghost use lib.ListN.{length};
 ghost use Rattle.octets.specs.Buffers.{slice, put};
 ghost use Rattle.octets.specs.Stream.{from, enciphered};
 ghost use Rattle.samples.specs.Words.{wordsOf, bytesOfAll};
-ghost use Rattle.ciphers.specs.Calls.{makeFaults};
+ghost use Rattle.ciphers.specs.Calls.{valueFaults};
 ghost use Rattle.refusals.specs.Rules.{settled};
 ghost use Rattle.enocoro.specs.Calls.{ahead};
-ghost use Rattle.enocoro.specs.Keystream as Keystream;
+ghost use Rattle.enocoro.specs.Keystream.{enocoro};
 use enocoro::Registers;
 
 // How many bytes are deciphered at a time. The cipher's own table is made once for as many.
@@ -77,36 +77,39 @@ fn write_samples(start: Registers, samples: &[i16], output: &mut [u8], at: usize
     start.cover(&mut output[at..end]);
 }
 
-// A body under a key and an initial value, read as samples to the front of the output, if these two make a cipher and
-// the samples have room.
-pub fn open_body(key: &[u8], value: &[u8], body: &[u8], output: &mut [i16])
-    ensures { λ _. ⌜ now (output .exit)
-        ≡ settled (makeFaults Keystream.enocoro (now (key .entry)) (now (value .entry)))
-        (put (now (output .entry)) 0 (wordsOf (enciphered
-        (Keystream.enocoro .stream (now (key .entry)) (now (value .entry))) (now (body .entry)))))
-        (λ number. now (output .entry)) ⌝ }
+// The cipher of a key and an initial value. Of a key that is lent as a slice it is known that it is of bytes.
+fn begun(key: &[u8], value: &[u8]) -> Registers
+    requires { ⌜ (length (now key) ≡ 16) × (length (now value) ≡ 8) ⌝ }
+    ensures { λ r. ⌜ ahead r ≡ enocoro .stream (now (key .entry)) (now (value .entry)) ⌝ }
 {
     let made = Registers::new(key, value);
-    let refusal = made.refusal;
-    if refusal != refusals::ACCEPTED {
-        return;
-    }
-    read_samples(made.registers, body, output);
+    made.registers
 }
 
-// Samples under a key and an initial value, as enciphered bytes from `at`, if these two make a cipher and the bytes have
-// room.
-pub fn seal_body(key: &[u8], value: &[u8], samples: &[i16], output: &mut [u8], at: usize)
-    ensures { λ _. ⌜ now (output .exit)
-        ≡ settled (makeFaults Keystream.enocoro (now (key .entry)) (now (value .entry)))
-        (put (now (output .entry)) at (enciphered
-        (Keystream.enocoro .stream (now (key .entry)) (now (value .entry))) (bytesOfAll (now (samples .entry)))))
+// A body under a key and an initial value, read as samples to the front of the output, if the value has its length and
+// the samples have room.
+pub fn open_body(key: &[u8; 16], value: &[u8], body: &[u8], output: &mut [i16])
+    ensures { λ _. ⌜ now (output .exit) ≡ settled (valueFaults enocoro (now (value .entry)))
+        (put (now (output .entry)) 0
+        (wordsOf (enciphered (enocoro .stream (now (key .entry)) (now (value .entry))) (now (body .entry)))))
         (λ number. now (output .entry)) ⌝ }
 {
-    let made = Registers::new(key, value);
-    let refusal = made.refusal;
-    if refusal != refusals::ACCEPTED {
+    if value.len() != enocoro::VALUE_BYTES {
         return;
     }
-    write_samples(made.registers, samples, output, at);
+    read_samples(begun(key, value), body, output);
+}
+
+// Samples under a key and an initial value, as enciphered bytes from `at`, if the value has its length and the bytes
+// have room.
+pub fn seal_body(key: &[u8; 16], value: &[u8], samples: &[i16], output: &mut [u8], at: usize)
+    ensures { λ _. ⌜ now (output .exit) ≡ settled (valueFaults enocoro (now (value .entry)))
+        (put (now (output .entry)) at
+        (enciphered (enocoro .stream (now (key .entry)) (now (value .entry))) (bytesOfAll (now (samples .entry)))))
+        (λ number. now (output .entry)) ⌝ }
+{
+    if value.len() != enocoro::VALUE_BYTES {
+        return;
+    }
+    write_samples(begun(key, value), samples, output, at);
 }

@@ -1,5 +1,6 @@
 pub mod Bits
 pub mod Buffers
+pub mod LowFirst
 pub mod Numbers
 pub mod Rows
 pub mod Shifts

@@ -100,7 +100,7 @@ place : (base : ℕ) → 0 < base → (n x : ℕ) → x % base ^ suc n ≡ (x / 
 place base p n x = ap (λ (v : ℕ). x % v) (pow-succ' base n) ∙ mod-mul x p (one-le-pow n base p)
 
 -- the last n digits show only the remainder by base ^ n
-digits-same : (base : ℕ) → 0 < base → (n x y : ℕ) → x % base ^ n ≡ y % base ^ n → digits base n x ≡ digits base n y
+pub digits-same : (base : ℕ) → 0 < base → (n x y : ℕ) → x % base ^ n ≡ y % base ^ n → digits base n x ≡ digits base n y
 unfolding digits
 digits-same base p zero x y e = refl
 digits-same base p (suc n) x y e =

@@ -1,4 +1,5 @@
 pub mod Buffers
 pub mod Digits
+pub mod LowFirst
 pub mod Rows
 pub mod Stream

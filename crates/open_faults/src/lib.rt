@@ -8,8 +8,10 @@ ghost use lib.ListN.{length};
 ghost use Rattle.octets.specs.Digits.{numberAt};
 ghost use Rattle.octets.specs.Rows.{numbersAt};
 ghost use Rattle.pack.specs.Ciphers.{cipherOf, picked, cipherIn};
-ghost use Rattle.pack.specs.Faults.{loopSectionFaults, faultsFromSamples, faultsFromKey, fileFaults};
-ghost use Rattle.pack.specs.Layout.{loopsGood, fours};
+ghost use Rattle.octets.specs.Stream.{Cipher};
+ghost use Rattle.pack.specs.Faults.{endFaults, tagSectionFaults, faultsFromLoops, faultsFromSamples, faultsFromKey};
+ghost use Rattle.pack.specs.Faults.{fileFaults};
+ghost use Rattle.pack.specs.Layout.{loopsGood, fours, tagLength};
 ghost use Rattle.pack.specs.Places.{byteAt};
 ghost use Rattle.refusals.specs.Rules.{verdictOf, verdict};
 
@@ -50,10 +52,46 @@ fn loops_good(file: &[u8], at: usize, count: usize, samples: usize) -> bool
     true
 }
 
-// What a file has wrong from its loop section on, which begins at `at`.
-fn loop_fault(file: &[u8], at: usize, samples: usize) -> Verdict
-    requires { ⌜ at ≤ length (now file) ⌝ }
-    ensures { λ r. ⌜ r ≡ verdict (loopSectionFaults (now (file .entry)) at samples) ⌝ }
+// Whether anything stands behind the last section, which ends at `at`.
+fn end_fault(file: &[u8], at: usize) -> Verdict
+    ensures { λ r. ⌜ r ≡ verdict (endFaults (now (file .entry)) at) ⌝ }
+{
+    if at < file.len() {
+        return verdict(refusals::MORE_BYTES, 0);
+    }
+    verdict(refusals::ACCEPTED, 0)
+}
+
+// What a file has wrong from its tag section on, which begins at `at` and should have so many bytes, its count
+// included; none if its cipher brings no tag.
+fn tag_fault(file: &[u8], at: usize, size: usize) -> Verdict
+    requires { ⌜ (at ≤ length (now file)) × (size ≤ 21) ⌝ }
+    ensures { λ r. ⌜ ((cipher : Cipher) → tagLength cipher ≡ size
+        → r ≡ verdict (tagSectionFaults cipher (now (file .entry)) at)) ⌝ }
+{
+    if size == 0 {
+        return end_fault(file, at);
+    }
+    if file.len() < at + 1 {
+        return verdict(refusals::BAD_TAG_SECTION, 1);
+    }
+    let count = file[at] as usize;
+    if count != size - 1 {
+        return verdict(refusals::BAD_TAG_SECTION, 0);
+    }
+    let end = at + size;
+    if file.len() < end {
+        return verdict(refusals::BAD_TAG_SECTION, end - file.len());
+    }
+    end_fault(file, end)
+}
+
+// What a file has wrong from its loop section on, which begins at `at`; `tag` is how many bytes its tag section should
+// have.
+fn loop_fault(file: &[u8], at: usize, samples: usize, tag: usize) -> Verdict
+    requires { ⌜ (at ≤ length (now file)) × (tag ≤ 21) ⌝ }
+    ensures { λ r. ⌜ ((cipher : Cipher) → tagLength cipher ≡ tag
+        → r ≡ verdict (faultsFromLoops cipher (now (file .entry)) at samples)) ⌝ }
 {
     if file.len() < at + 1 {
         return verdict(refusals::CUT_IN_LOOPS, 1);
@@ -67,18 +105,16 @@ fn loop_fault(file: &[u8], at: usize, samples: usize) -> Verdict
         return verdict(refusals::CUT_IN_LOOPS, end - file.len());
     }
     if loops_good(file, at + 1, count, samples) {
-        if end < file.len() {
-            return verdict(refusals::MORE_BYTES, 0);
-        }
-        return verdict(refusals::ACCEPTED, 0);
+        return tag_fault(file, end, tag);
     }
     verdict(refusals::BAD_LOOP, 0)
 }
 
 // What a file has wrong from its sample section on, which begins at `at`.
-fn sample_fault(file: &[u8], at: usize) -> Verdict
-    requires { ⌜ at ≤ length (now file) ⌝ }
-    ensures { λ r. ⌜ r ≡ verdict (faultsFromSamples (now (file .entry)) at) ⌝ }
+fn sample_fault(file: &[u8], at: usize, tag: usize) -> Verdict
+    requires { ⌜ (at ≤ length (now file)) × (tag ≤ 21) ⌝ }
+    ensures { λ r. ⌜ ((cipher : Cipher) → tagLength cipher ≡ tag
+        → r ≡ verdict (faultsFromSamples cipher (now (file .entry)) at)) ⌝ }
 {
     if file.len() < at + 4 {
         return verdict(refusals::CUT_IN_SAMPLES, at + 4 - file.len());
@@ -91,7 +127,7 @@ fn sample_fault(file: &[u8], at: usize) -> Verdict
     if file.len() < end {
         return verdict(refusals::CUT_IN_SAMPLES, end - file.len());
     }
-    loop_fault(file, end, count)
+    loop_fault(file, end, count, tag)
 }
 
 // What a file has wrong from its key section on, which begins at `at`.
@@ -114,7 +150,7 @@ fn key_fault(file: &[u8], at: usize) -> Verdict
     if pack::LAST_KEY < file[at + 1] {
         return verdict(refusals::BAD_KEY_NUMBER, 0);
     }
-    sample_fault(file, end)
+    sample_fault(file, end, pack::tag_length(pack::kind_of(count)))
 }
 
 // What a file has wrong, from its name on: each section goes on to the one behind it.

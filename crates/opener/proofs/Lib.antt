@@ -1,1 +1,2 @@
 pub mod Lacking
+pub mod Shown

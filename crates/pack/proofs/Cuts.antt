@@ -1,6 +1,7 @@
 -- What a file that breaks off is told is what is missing: from the file with more bytes behind it, it parts where it
 -- breaks off; and a front of an accepted file lacks only what it is asked to have.
 use mathlib.Core.{Path._≡_, Path.refl, Path.sym, Path.ap, Path.ap₂, Path.subst, Path._∙_, Logic._≢_}
+use mathlib.Core.Logic.{_⊎_, inl, inr, ⊎-elim}
 use mathlib.Core.{Bool.Bool, Bool.true, Bool.false, Bool.cond, List.List, List.[], List._∷_, List._++_}
 use mathlib.Core.List.{append-nil}
 use Prim.Native.Nat.{ℕ, _+_, _-_, _<_, _≤_}
@@ -9,7 +10,7 @@ use borrow.Author.Tests.{ltb-true, ltb-false}
 use lib.{Dec.ltb, IntN.ℤ, Seq.length-take-le}
 use lib.ListN.{length, take, drop, length-append, take-append-drop}
 use Rattle.octets.specs.Stream.{Cipher}
-use Rattle.refusals.specs.{Numbers.accepted, Numbers.cutInName, Outcome.Outcome, Outcome.outcome}
+use Rattle.refusals.specs.{Numbers.accepted, Numbers.cutInName, Numbers.cutInLoops, Outcome.Outcome, Outcome.outcome}
 use Rattle.refusals.specs.Rules.{Fault, AllRight, first, verdictOf, verdict, reason}
 use Rattle.refusals.specs.declared.Verdict.{Verdict}
 use Rattle.refusals.proofs.Faults.{none-wrong, right-both, first-append, verdict-right, verdict-at, verdict-from}
@@ -17,15 +18,18 @@ use Rattle.refusals.proofs.Faults.{by-verdict}
 use Rattle.refusals.proofs.Settled.{by-settled, settled-left, first-here}
 use Rattle.trivium.specs.Keystream.{trivium}
 use Rattle.enocoro.specs.Keystream.{enocoro}
+use Rattle.triad.specs.Tag.{triad}
 use Rattle.pack.specs.Calls.{refusedOpening, lacksOf, surveying, openingPack}
 use Rattle.pack.specs.Ciphers.{cipherIn}
-use Rattle.pack.specs.Cuts.{Section, sections, cutAt, CutNumber, CutsLack, refusedSo, Cuts}
-use Rattle.pack.specs.Faults.{faultsFromSamples, faultsFromKey, fileFaults, roomFaults, openFaults}
+use Rattle.pack.specs.Cuts.{Section, sections, cutAt, FourCut, CutNumber, CutsLack, refusedSo, Cuts}
+use Rattle.pack.specs.Faults.{faultsFromSamples, faultsFromKey, fileFaults, keyedFaults, roomFaults, openFaults}
 use Rattle.pack.specs.Places.{sampleCount}
 use Rattle.pack.specs.declared.Opened.{Opened}
-use Rattle.pack.proofs.Growing.{asked, Parting, cut, other, files-grown, parting, only-asked, cut-asked}
-use Rattle.pack.proofs.{AcceptedFiles.loop-right, Picking.Steady, Picking.cipher-steady}
-use Rattle.pack.proofs.Theorems.{file-numbered, file-right, survey-refusal}
+use Rattle.pack.specs.Layout.{tagLength}
+use Rattle.pack.proofs.Growing.{asked, Parting, cut, other, files-grown, parting, only-asked}
+use Rattle.pack.proofs.{Growing.cut-asked, AcceptedFiles.tag-right, Picking.Steady, Picking.cipher-steady}
+use Rattle.pack.proofs.Theorems.{file-numbered, keyed-numbered, file-first, file-right, keyed-shown}
+use Rattle.pack.proofs.Theorems.{survey-refusal}
 
 -- ---- 30 to 33 and the number of bytes go together, as they do in each rule
 
@@ -33,11 +37,19 @@ use Rattle.pack.proofs.Theorems.{file-numbered, file-right, survey-refu
 ends : {number short place : ℕ} → CutNumber number → short < place → CutsLack number (place - short)
 ends among less = (λ _. omega arith, λ _. among)
 
-lacks-none : {number : ℕ} → number < cutInName → CutsLack number 0
-lacks-none below = (λ among. absurd (omega arith), λ some. absurd (omega arith))
+-- none of the four
+abbrev pub NoFour : ℕ → Type 0
+NoFour number = cutInName ≤ number → cutInLoops < number
 
-reads : {number : ℕ} {A : Type 0} → number < cutInName → A → CutsLack number 0
-reads below broken = lacks-none below
+lacks-none : {number : ℕ} → NoFour number → CutsLack number 0
+lacks-none outside = (λ among. let far = outside (among .0) in absurd (omega arith), λ some. absurd (omega arith))
+
+reads : {number : ℕ} {A : Type 0} → NoFour number → A → CutsLack number 0
+reads outside broken = lacks-none outside
+
+-- a number for a cut isn't 0
+cut-refused : {number : ℕ} → CutNumber number → number ≢ accepted
+cut-refused among z = ⊎-elim (λ four. omega arith) (λ tag. omega arith) among
 
 -- one rule after the other
 infixr 5 _next_
@@ -47,12 +59,31 @@ a next b = (a, b)
 together : (cipher : Cipher) (file : List ℕ) → CutsLack (first (fileFaults cipher file)) (lacksOf cipher file)
 unfolding fileFaults faultsFromKey faultsFromSamples
 together cipher file =
-    by-verdict CutsLack (lacks-none (omega arith)) (fileFaults cipher file)
-    (ends (omega arith) next reads (omega arith) next ends (omega arith) next reads (omega arith)
-    next ends (omega arith) next reads (omega arith) next ends (omega arith) next reads (omega arith)
-    next ends (omega arith) next reads (omega arith) next ends (omega arith)
-    next ends (omega arith) next reads (omega arith) next ends (omega arith) next reads (omega arith)
-    next reads (omega arith) next tt)
+    by-verdict CutsLack (lacks-none (λ h. omega arith)) (fileFaults cipher file)
+    (ends (inl (omega arith, omega arith))
+    next reads (λ h. omega arith)
+    next ends (inl (omega arith, omega arith))
+    next reads (λ h. omega arith)
+    next ends (inl (omega arith, omega arith))
+    next reads (λ h. omega arith)
+    next ends (inl (omega arith, omega arith))
+    next reads (λ h. omega arith)
+    next ends (inl (omega arith, omega arith))
+    next reads (λ h. omega arith)
+    next ends (inl (omega arith, omega arith))
+    next ends (inl (omega arith, omega arith))
+    next reads (λ h. omega arith)
+    next ends (inl (omega arith, omega arith))
+    next reads (λ h. omega arith)
+    next ends (inr refl)
+    next reads (λ h. omega arith)
+    next ends (inr refl)
+    next reads (λ h. omega arith)
+    next tt)
+
+-- what no rule looks further than
+abbrev longest : Cipher → ℕ
+longest cipher = 32872 + cipher .valueBytes + tagLength cipher
 
 -- ---- the answer's two numbers are those of the file's rules
 
@@ -77,16 +108,16 @@ module _ (cipher : Cipher) where
       ∙ ap (λ (v : Verdict). refusedOpening (v .lacks) number) (sym e)
 
   -- rules behind the file's own that say nothing of cuts change nothing of this
-  pub lacks-behind : (file : List ℕ) (faults : List Fault) → first faults < cutInName
+  pub lacks-behind : (file : List ℕ) (faults : List Fault) → NoFour (first faults)
       → CutsLack (first (fileFaults cipher file ++ faults)) (surveying cipher file .lacks)
-  lacks-behind file faults below =
+  lacks-behind file faults outside =
       subst (λ (l : ℕ). CutsLack (first (fileFaults cipher file ++ faults)) l) (sym (survey-lacks file))
       (subst (λ (n : ℕ). CutsLack n (lacksOf cipher file))
       (sym (first-append (fileFaults cipher file) faults (file-numbered cipher file)))
       (by-settled (fileFaults cipher file) (first faults) (λ n. n) (λ (n : ℕ). CutsLack n (lacksOf cipher file))
       (λ e.
       let none = ap (λ (v : Verdict). v .lacks) (verdict-right _ (file-right cipher file e)) in
-      subst (CutsLack (first faults)) none (lacks-none below))
+      subst (CutsLack (first faults)) none (lacks-none outside))
       (λ n e h. subst (λ (m : ℕ). CutsLack m (lacksOf cipher file)) e (together cipher file))))
 
   -- a broken rule of the file ends a survey and an opening alike
@@ -98,21 +129,23 @@ module _ (cipher : Cipher) where
       let refused : n ≢ accepted = λ z. h (survey-refusal cipher file ∙ z) in
       let left : ℕ → Outcome Opened ℤ = λ k. outcome (refusedOpening (lacksOf cipher file) k) sound in
       sym
-      (settled-left (openFaults cipher file (length sound)) _ left n refused
-      (first-here (fileFaults cipher file) _ (file-numbered cipher file) n refused refl))
+      (settled-left (openFaults cipher ring file (length sound)) _ left n refused
+      (first-here (keyedFaults cipher ring file) _ (keyed-numbered cipher ring file) n refused
+      (file-first cipher ring file n refused refl)))
       ∙ ap (λ (o : Opened). outcome o sound)
       (settled-left (fileFaults cipher file) _ (refusedOpening (lacksOf cipher file)) n refused refl)
 
   opened-alike : (ring : List (List ℕ)) (file : List ℕ) (sound : List ℤ)
       → openingPack cipher ring file sound .answer .lacks ≡ surveying cipher file .lacks
-  unfolding openingPack openFaults fileFaults faultsFromKey faultsFromSamples
+  unfolding openingPack openFaults keyedFaults fileFaults faultsFromKey faultsFromSamples
   opened-alike ring file sound =
-      by-settled (openFaults cipher file (length sound)) _ _
+      by-settled (openFaults cipher ring file (length sound)) _ _
       (λ (o : Outcome Opened ℤ). o .answer .lacks ≡ surveying cipher file .lacks)
       (λ e.
-      let right = right-both (fileFaults cipher file) (roomFaults (sampleCount cipher file) (length sound))
-      (none-wrong (openFaults cipher file (length sound)) tt e) .0 in
-      ap (λ (v : Verdict). v .lacks) (verdict-right _ right) ∙ sym (survey-lacks file))
+      let right = right-both (keyedFaults cipher ring file) (roomFaults (sampleCount cipher file) (length sound))
+      (none-wrong (openFaults cipher ring file (length sound)) tt e) .0 in
+      ap (λ (v : Verdict). v .lacks) (verdict-right _ (keyed-shown cipher ring file right .0)) ∙ sym
+      (survey-lacks file))
       (λ n e h. sym (survey-lacks file))
 
   -- ---- more bytes behind a file
@@ -123,11 +156,11 @@ module _ (cipher : Cipher) where
 
     abbrev Parted : Type 0
     Parted =
-        Parting (32872 + cipher .valueBytes) (length file) (length (file ++ more)) (fileFaults cipher file)
+        Parting (longest cipher) (length file) (length (file ++ more)) (fileFaults cipher file)
         (fileFaults cipher (file ++ more))
 
     parted : Parted
-    parted = parting (omega (arith, long)) (files-grown file more cipher (32872 + cipher .valueBytes) (omega arith))
+    parted = parting (omega (arith, long)) (files-grown file more cipher (longest cipher) (omega arith))
 
     -- what the shorter file is told
     file-told : {number lacks : ℕ} → verdictOf number lacks ≡ verdict (fileFaults cipher file)
@@ -143,7 +176,7 @@ module _ (cipher : Cipher) where
     fewer few (cut less most one both later) =
         let told = file-told one in
         let among = told-together file .1 (omega arith) in
-        answered (file ++ more) (both (omega (arith, long, told))) (omega (arith, told, among))
+        answered (file ++ more) (both (omega (arith, long, told))) (λ z. cut-refused among (sym (told .0) ∙ z))
         ∙ ap₂ refusedOpening (omega (arith, long, told)) (told .0)
     fewer few (other none same) = absurd (omega (arith, survey-lacks file))
 
@@ -178,20 +211,20 @@ asked-cut n (s ∷ more) h = go (ltb n (s .counted)) (ltb n (s .ended)) refl ref
 
 -- counts stand before what they count
 in-order : (cipher : Cipher) (file : List ℕ) → InOrder (sections cipher file)
-in-order cipher file = (omega arith, (omega arith, (omega arith, (omega arith, tt))))
+in-order cipher file = (omega arith, (omega arith, (omega arith, (omega arith, (omega arith, tt)))))
 
 -- a file that breaks off is told the section in which it ends
-ends-so : (cipher : Cipher) (file : List ℕ) → CutNumber (surveying cipher file .refusal)
+ends-so : (cipher : Cipher) (file : List ℕ) → 0 < surveying cipher file .lacks
     → surveying cipher file ≡ refusedSo (cutAt (length file) (sections cipher file))
-ends-so cipher file among =
-    let some = told-together cipher file .0 among in
-    let bound : ℕ = 32872 + cipher .valueBytes in
+ends-so cipher file some =
+    let among = told-together cipher file .1 some in
+    let bound : ℕ = longest cipher in
     let found : verdict (fileFaults cipher file) ≡ cutAt (length file) (sections cipher file) =
     cut-asked (files-grown file [] cipher bound (omega arith)) (omega (arith, survey-lacks cipher file))
     ∙ ap (λ (f : List ℕ). verdict (asked (length file) (sections cipher f))) (append-nil file)
     ∙ asked-cut (length file) (sections cipher file) (in-order cipher file) in
     let number = survey-refusal cipher file ∙ ap (λ (v : Verdict). v .number) found in
-    answered cipher file (sym found) (omega (arith, number))
+    answered cipher file (sym found) (λ z. cut-refused among (number ∙ z))
 
 -- a cut in a section has its number; one behind it, that of a section behind it
 cut-among : (n : ℕ) (s : Section) (more : List Section) → CutNumber (s .number)
@@ -216,7 +249,7 @@ module _ (cipher : Cipher) (file : List ℕ) (n : ℕ) (right : AllRight (fileFa
         let whole : front ++ rest ≡ file = take-append-drop n file in
         let size : length front ≡ n = length-take-le n file (omega arith) in
         only-asked (omega (arith, length-append front rest))
-        (files-grown front rest cipher (32872 + cipher .valueBytes) (omega arith))
+        (files-grown front rest cipher (longest cipher) (omega arith))
         (subst (λ (f : List ℕ). AllRight (fileFaults cipher f)) (sym whole) right)
         ∙ ap₂ (λ (k : ℕ) (f : List ℕ). verdict (asked k (sections cipher f))) size whole
         ∙ asked-cut n (sections cipher file) (in-order cipher file)
@@ -224,11 +257,12 @@ module _ (cipher : Cipher) (file : List ℕ) (n : ℕ) (right : AllRight (fileFa
     cut-number : CutNumber (cutAt n (sections cipher file) .number)
     unfolding fileFaults faultsFromKey faultsFromSamples
     cut-number =
-        cut-among n _ _ (omega arith)
-        (λ _. cut-among n _ _ (omega arith)
-        (λ _. cut-among n _ _ (omega arith)
-        (λ _. cut-among n _ _ (omega arith)
-        (λ behind. absurd (omega (arith, loop-right cipher file right))))))
+        cut-among n _ _ (inl (omega arith, omega arith))
+        (λ _. cut-among n _ _ (inl (omega arith, omega arith))
+        (λ _. cut-among n _ _ (inl (omega arith, omega arith))
+        (λ _. cut-among n _ _ (inl (omega arith, omega arith))
+        (λ _. cut-among n _ _ (inr refl)
+        (λ behind. absurd (omega (arith, tag-right cipher file right)))))))
 
 -- ---- all of it, under any choice that bytes behind a file don't disturb
 
@@ -274,7 +308,7 @@ cuts pick steady =
           ∙ ap (λ (f : List ℕ). verdict (fileFaults (pick f) (take n file))) (take-append-drop n file) in (
             among,
             answered (pick (take n file)) (take n file) (sym (under ∙ cut-verdict (pick file) file n right inside))
-                (omega (arith, among)),
+                (cut-refused among),
           );
       opened = λ ring file. opened-refused (pick file) ring file;
       openedLacks = λ ring file. opened-alike (pick file) ring file;
@@ -289,6 +323,9 @@ cuts-trivium = under trivium
 
 pub cuts-enocoro : Cuts (λ file. enocoro)
 cuts-enocoro = under enocoro
+
+pub cuts-triad : Cuts (λ file. triad)
+cuts-triad = under triad
 
 -- and for callers, under the one that a file is under
 pub cuts-picked : Cuts cipherIn

@@ -4,23 +4,23 @@
 use mathlib.Core.{Path._≡_, Path.refl, Path.sym, Path.ap, Path.subst, Path._∙_}
 use mathlib.Core.Bool.{Bool, true, false, not}
 use mathlib.Core.List.{List, [], _∷_, _++_}
-use Prim.Native.Nat.{ℕ, suc, _+_, _-_, _*_, _<_, _≤_}
+use Prim.Native.Nat.{ℕ, suc, _+_, _-_, _*_, _<_, _≤_, min}
 use native.Mathlib.Omega.{arith}
 use borrow.Author.Tests.{ltb-true, ltb-false}
 use lib.{Dec.eqb, Dec.ltb, ListN.length, ListN.List·getD-append}
-use Rattle.octets.specs.{Buffers.slice, Digits.number, Rows.numbersAt, Stream.Cipher}
+use Rattle.octets.specs.{Buffers.slice, Digits.number, Digits.numberAt, Rows.numbersAt, Stream.Cipher}
 use Rattle.octets.proofs.{Rows.numbers-front, Rows.length-equal, Slices.slice-front}
-use Rattle.refusals.specs.Numbers.{cutInKey, cutInSamples, cutInLoops}
+use Rattle.refusals.specs.Numbers.{cutInKey, cutInSamples, cutInLoops, badTagSection}
 use Rattle.refusals.specs.Rules.{Wrong, _over_, _unlike_, _endsBefore_, broken, Right, missing, Fault, _says_}
 use Rattle.refusals.specs.Rules.{AllRight, lacking, verdictOf, verdict, reason}
 use Rattle.refusals.specs.declared.Verdict.{Verdict}
 use Rattle.refusals.proofs.Faults.{right, fine, is-wrong, lacking-passes, verdict-right, verdict-at, verdict-from}
 use Rattle.refusals.proofs.Faults.{verdict-tail, by-verdict, reason-here, reason-later}
 use Rattle.pack.specs.Cuts.{Section, section, sections}
-use Rattle.pack.specs.Faults.{loopSectionFaults, faultsFromSamples, faultsFromKey, fileFaults}
-use Rattle.pack.specs.Layout.{nameGood, loopsGood, fours}
+use Rattle.pack.specs.Faults.{tagSectionFaults, faultsFromLoops, faultsFromSamples, faultsFromKey, fileFaults}
+use Rattle.pack.specs.Layout.{nameGood, loopsGood, fours, tagCount, tagLength}
 use Rattle.pack.specs.Limits.{mostName, lastKey, mostSamples, mostLoops}
-use Rattle.pack.specs.Places.{byteAt, nameEnd, keyEnd, samplesIn, samplesEnd, loopsEnd}
+use Rattle.pack.specs.Places.{byteAt, nameEnd, keyEnd, samplesIn, samplesEnd, loopsEnd, tagCountIn, tagEnd}
 
 -- ---- what the rules of the two files have in common
 
@@ -29,15 +29,20 @@ abbrev pub asked : ℕ → List Section → List Fault
 asked n [] = []
 asked n (s ∷ more) = (n endsBefore s .counted says s .number) ∷ (n endsBefore s .ended says s .number) ∷ asked n more
 
--- the sections of a file from its loop section on, which begins at `at`; from its sample section; from its key section
-abbrev loopsFrom : List ℕ → ℕ → List Section
-loopsFrom file at = section cutInLoops (at + 1) (loopsEnd file at) ∷ []
+-- the sections of a file from its tag section on, which begins at `at`; from its loop section; from its sample section;
+-- from its key section
+abbrev tagFrom : Cipher → ℕ → List Section
+tagFrom cipher at = section badTagSection (at + tagCount cipher) (tagEnd cipher at) ∷ []
 
-abbrev samplesFrom : List ℕ → ℕ → List Section
-samplesFrom file at = section cutInSamples (at + 4) (samplesEnd file at) ∷ loopsFrom file (samplesEnd file at)
+abbrev loopsFrom : Cipher → List ℕ → ℕ → List Section
+loopsFrom cipher file at = section cutInLoops (at + 1) (loopsEnd file at) ∷ tagFrom cipher (loopsEnd file at)
+
+abbrev samplesFrom : Cipher → List ℕ → ℕ → List Section
+samplesFrom cipher file at =
+    section cutInSamples (at + 4) (samplesEnd file at) ∷ loopsFrom cipher file (samplesEnd file at)
 
 abbrev keyFrom : Cipher → List ℕ → ℕ → List Section
-keyFrom cipher file at = section cutInKey (at + 1) (keyEnd cipher at) ∷ samplesFrom file (keyEnd cipher at)
+keyFrom cipher file at = section cutInKey (at + 1) (keyEnd cipher at) ∷ samplesFrom cipher file (keyEnd cipher at)
 
 -- The rules of a file of `short` bytes, those of the `long` file, and of these what the short one is asked to have. No
 -- rule asks for more than `bound` bytes.
@@ -63,41 +68,61 @@ module _ (file more : List ℕ) where
   same-byte : (i : ℕ) → i < length file → byteAt file i ≡ byteAt whole i
   same-byte i h = sym (List·getD-append file more 0 i h)
 
-  loops-grown : (bound at samples : ℕ) → at + 65 ≤ bound
-      → Grown bound (length file) (length whole) (loopSectionFaults file at samples)
-      (loopSectionFaults whole at samples)
-      (asked (length file) (loopsFrom whole at))
-  loops-grown bound at samples far =
-      let n : ℕ = byteAt file at in
-      reach (at + 1) refl (omega arith) (λ one.
-      let same : n ≡ byteAt whole at = same-byte at (omega arith) in
-      read {v = n over mostLoops} refl refl (ap (ltb mostLoops) same) (λ limit.
-      let end : loopsEnd file at ≡ loopsEnd whole at = ap (λ (k : ℕ). at + 1 + 8 * k) same in
-      reach (loopsEnd file at) end (omega arith) (λ there.
-      read refl refl
-      (ap (λ (l : List ℕ). not (loopsGood samples l))
-      (sym (numbers-front (fours (2 * n)) file more (at + 1) (omega (arith, length-equal (2 * n) 4)))
-      ∙ ap (λ (k : ℕ). numbersAt (fours (2 * k)) whole (at + 1)) same))
-      (λ _. last end (omega arith)))))
-
-  samples-grown : (bound at : ℕ) → at + 32837 ≤ bound
-      → Grown bound (length file) (length whole) (faultsFromSamples file at) (faultsFromSamples whole at)
-      (asked (length file) (samplesFrom whole at))
-  unfolding faultsFromSamples
-  samples-grown bound at far =
-      let n : ℕ = samplesIn file at in
-      reach (at + 4) refl (omega arith) (λ four.
-      let same : n ≡ samplesIn whole at = ap (number 256) (sym (slice-front file more at 4 (omega arith))) in
-      read {v = n over mostSamples} refl refl (ap (ltb mostSamples) same) (λ limit.
-      reach (samplesEnd file at) (ap (λ (k : ℕ). at + 4 + 2 * k) same) (omega arith) (λ there.
-      subst
-      (λ (k : ℕ). Grown bound (length file) (length whole) (loopSectionFaults file (at + 4 + 2 * n) n)
-      (loopSectionFaults whole (at + 4 + 2 * k) k)
-      (asked (length file) (loopsFrom whole (at + 4 + 2 * k)))) same
-      (loops-grown bound (at + 4 + 2 * n) n (omega arith)))))
+  same-number : (at n : ℕ) → at + n ≤ length file → numberAt file at n ≡ numberAt whole at n
+  same-number at n h = ap (number 256) (sym (slice-front file more at n h))
 
   module _ (cipher : Cipher) where
-    keys-grown : (bound at : ℕ) → keyEnd cipher at + 32837 ≤ bound
+    -- the last rule of all, on the file's end, stands behind those of the tag section
+    tag-grown : (bound at : ℕ) → at + tagLength cipher ≤ bound
+        → Grown bound (length file) (length whole) (tagSectionFaults cipher file at)
+        (tagSectionFaults cipher whole at)
+        (asked (length file) (tagFrom cipher at))
+    tag-grown bound at far =
+        reach (at + tagCount cipher) refl (omega arith) (λ one.
+        read {v = tagCountIn cipher file at unlike cipher .tagBytes} refl refl
+        (ap (λ (k : ℕ). not (eqb k (cipher .tagBytes))) (same-number at (tagCount cipher) (omega arith))) (λ count.
+        reach (tagEnd cipher at) refl (omega arith) (λ there. last {p = tagEnd cipher at} refl (omega arith))))
+
+    loops-grown : (bound at samples : ℕ) → at + 65 + tagLength cipher ≤ bound
+        → Grown bound (length file) (length whole) (faultsFromLoops cipher file at samples)
+        (faultsFromLoops cipher whole at samples)
+        (asked (length file) (loopsFrom cipher whole at))
+    loops-grown bound at samples far =
+        let n : ℕ = byteAt file at in
+        reach (at + 1) refl (omega arith) (λ one.
+        let same : n ≡ byteAt whole at = same-byte at (omega arith) in
+        read {v = n over mostLoops} refl refl (ap (ltb mostLoops) same) (λ limit.
+        let end : loopsEnd file at ≡ loopsEnd whole at = ap (λ (k : ℕ). at + 1 + 8 * k) same in
+        reach (loopsEnd file at) end (omega arith) (λ there.
+        read refl refl
+        (ap (λ (l : List ℕ). not (loopsGood samples l))
+        (sym (numbers-front (fours (2 * n)) file more (at + 1) (omega (arith, length-equal (2 * n) 4)))
+        ∙ ap (λ (k : ℕ). numbersAt (fours (2 * k)) whole (at + 1)) same))
+        (λ _.
+        subst
+        (λ (k : ℕ). Grown bound (length file) (length whole) (tagSectionFaults cipher file (at + 1 + 8 * n))
+        (tagSectionFaults cipher whole (at + 1 + 8 * k))
+        (asked (length file) (tagFrom cipher (at + 1 + 8 * k)))) same
+        (tag-grown bound (at + 1 + 8 * n) (omega arith))))))
+
+    samples-grown : (bound at : ℕ) → at + 32837 + tagLength cipher ≤ bound
+        → Grown bound (length file) (length whole) (faultsFromSamples cipher file at)
+        (faultsFromSamples cipher whole at)
+        (asked (length file) (samplesFrom cipher whole at))
+    unfolding faultsFromSamples
+    samples-grown bound at far =
+        let n : ℕ = samplesIn file at in
+        reach (at + 4) refl (omega arith) (λ four.
+        let same : n ≡ samplesIn whole at = same-number at 4 (omega arith) in
+        read {v = n over mostSamples} refl refl (ap (ltb mostSamples) same) (λ limit.
+        reach (samplesEnd file at) (ap (λ (k : ℕ). at + 4 + 2 * k) same) (omega arith) (λ there.
+        subst
+        (λ (k : ℕ). Grown bound (length file) (length whole) (faultsFromLoops cipher file (at + 4 + 2 * n) n)
+        (faultsFromLoops cipher whole (at + 4 + 2 * k) k)
+        (asked (length file) (loopsFrom cipher whole (at + 4 + 2 * k)))) same
+        (loops-grown bound (at + 4 + 2 * n) n (omega arith)))))
+
+    keys-grown : (bound at : ℕ) → keyEnd cipher at + 32837 + tagLength cipher ≤ bound
         → Grown bound (length file) (length whole) (faultsFromKey cipher file at) (faultsFromKey cipher whole at)
         (asked (length file) (keyFrom cipher whole at))
     unfolding faultsFromKey
@@ -110,8 +135,8 @@ module _ (file more : List ℕ) where
         (λ number.
         samples-grown bound (keyEnd cipher at) (omega arith)))))
 
-    -- the longest file has 32,872 bytes, and an initial value
-    pub files-grown : (bound : ℕ) → 32872 + cipher .valueBytes ≤ bound
+    -- the longest file has 32,872 bytes, an initial value, and what there is of a tag section
+    pub files-grown : (bound : ℕ) → 32872 + cipher .valueBytes + tagLength cipher ≤ bound
         → Grown bound (length file) (length whole) (fileFaults cipher file) (fileFaults cipher whole)
         (asked (length file) (sections cipher whole))
     unfolding fileFaults

@@ -9,3 +9,4 @@ pub mod Opposites
 pub mod Picking
 pub mod Samples
 pub mod Theorems
+pub mod Tags

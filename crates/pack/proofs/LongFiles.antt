@@ -11,17 +11,18 @@ use Rattle.refusals.specs.{Numbers.accepted, Outcome.outcome, Rules.AllRight, R
 use Rattle.refusals.specs.declared.Verdict.{Verdict}
 use Rattle.refusals.proofs.Settled.{settled-left, first-here}
 use Rattle.samples.proofs.Words.{Good}
-use Rattle.trivium.specs.Keystream.{trivium}
-use Rattle.pack.specs.Calls.{refusedOpening, lacksOf, surveying, openingPack, surveyingFile, openingFile}
-use Rattle.pack.specs.Ciphers.{cipherOf, kindIn, cipherIn, Rings}
+use Rattle.triad.specs.Tag.{triad}
+use Rattle.pack.specs.Calls.{refusedOpening, lacksOf, surveying, inspecting, openingPack, surveyingFile}
+use Rattle.pack.specs.{Calls.inspectingFile, Calls.openingFile}
+use Rattle.pack.specs.Ciphers.{cipherOf, kindIn, cipherIn, Rings, ringIn}
 use Rattle.pack.specs.declared.Kind.{Kind}
-use Rattle.pack.specs.Faults.{faultsFromSamples, faultsFromKey, fileFaults, openFaults}
+use Rattle.pack.specs.Faults.{faultsFromSamples, faultsFromKey, fileFaults, keyedFaults, openFaults}
 use Rattle.pack.specs.Layout.{Parts, parts, Within, nameGood, loopsGood, layout}
 use Rattle.pack.specs.Limits.{mostName, mostSamples, longestFile}
-use Rattle.pack.proofs.{AcceptedFiles.key-right, AcceptedFiles.sample-right, AcceptedFiles.loop-right}
+use Rattle.pack.proofs.AcceptedFiles.{key-right, sample-right, loop-right, tag-right}
 use Rattle.pack.proofs.Growing.{files-grown, parting, alike-beyond}
 use Rattle.pack.proofs.{LaidFiles.length-layout, Picking.short-value, Picking.cipher-steady, Samples.all-good}
-use Rattle.pack.proofs.Theorems.{file-numbered, file-right, survey-refusal}
+use Rattle.pack.proofs.Theorems.{keyed-numbered, file-first, file-right, survey-refusal}
 
 -- ---- how long a file can be
 
@@ -33,6 +34,7 @@ right-at-most kind file right =
     let key = key-right (cipherOf kind) file right in
     let sample = sample-right (cipherOf kind) file right in
     let loop = loop-right (cipherOf kind) file right in
+    let tag = tag-right (cipherOf kind) file right in
     omega (arith, short-value kind)
 
 pub layout-at-most : (kind : Kind) (ring : List (List ℕ)) (p : Parts) → Within (cipherOf kind) p
@@ -48,10 +50,10 @@ equal-elements P (suc n) (suc i) a d pa pd = equal-elements P n i a d pa pd
 -- a name of 32 spaces, silence, and eight times a loop of one sample
 abbrev longParts : ℕ → Parts
 longParts count =
-    parts (replicate mostName 32) 0 (replicate 10 0) (replicate count (pos 0))
+    parts (replicate mostName 32) 0 (replicate 12 0) (replicate count (pos 0))
     (0 ∷ 1 ∷ 0 ∷ 1 ∷ 0 ∷ 1 ∷ 0 ∷ 1 ∷ 0 ∷ 1 ∷ 0 ∷ 1 ∷ 0 ∷ 1 ∷ 0 ∷ 1 ∷ [])
 
-long-within : (count : ℕ) → 1 ≤ count → count ≤ mostSamples → Within trivium (longParts count)
+long-within : (count : ℕ) → 1 ≤ count → count ≤ mostSamples → Within triad (longParts count)
 unfolding nameGood loopsGood
 long-within count some most =
     let counted = length-replicate count (pos 0) in
@@ -60,18 +62,18 @@ long-within count some most =
       nameBytes = refl;
       keyNumber = omega arith;
       valueCount = refl;
-      valueBytes = λ i. equal-elements (λ (x : ℕ). x < 256) 10 i 0 0 (omega arith) (omega arith);
+      valueBytes = λ i. equal-elements (λ (x : ℕ). x < 256) 12 i 0 0 (omega arith) (omega arith);
       sampleCount = omega arith;
       samples = all-good _ (λ i. equal-elements Good count i (pos 0) (pos 0) (omega arith) (omega arith));
       loopCount = omega arith;
       loops = rw (counted, le-leb 1 count some);
     }
 
-long-length : (ring : List (List ℕ)) (count : ℕ) → length (layout trivium ring (longParts count)) ≡ 114 + 2 * count
-long-length ring count = omega (arith, length-layout trivium ring (longParts count), length-replicate count (pos 0))
+long-length : (ring : List (List ℕ)) (count : ℕ) → length (layout triad ring (longParts count)) ≡ 125 + 2 * count
+long-length ring count = omega (arith, length-layout triad ring (longParts count), length-replicate count (pos 0))
 
 pub longest-reached : (ring : List (List ℕ))
-    → (p : Parts) × Within trivium p × (length (layout trivium ring p) ≡ longestFile)
+    → (p : Parts) × Within triad p × (length (layout triad ring p) ≡ longestFile)
 longest-reached ring = (
   longParts mostSamples,
   long-within mostSamples (omega arith) (omega arith),
@@ -131,6 +133,13 @@ pub front-decides : (file : List ℕ) (n : ℕ) → longestFile < n → surveyin
 unfolding surveying
 front-decides = by-front surveyingFile refusedOpening (λ file k no e. settled-left _ _ _ k no e)
 
+pub front-inspects : (r : Rings) (file : List ℕ) (n : ℕ) → longestFile < n
+    → inspectingFile r (take n file) ≡ inspectingFile r file
+unfolding inspecting
+front-inspects r =
+    by-front (inspectingFile r) refusedOpening
+    (λ file k no e. settled-left _ _ _ k no (file-first (cipherIn file) (ringIn r file) file k no e))
+
 -- so a program that reads one byte more than the longest file opens as if it had read all
 pub front-opens : (r : Rings) (sound : List ℤ) (file : List ℕ) (n : ℕ) → longestFile < n
     → openingFile r (take n file) sound ≡ openingFile r file sound
@@ -139,4 +148,6 @@ front-opens r sound =
     by-front (λ (file : List ℕ). openingFile r file sound) (λ l k. outcome (refusedOpening l k) sound)
     (λ file k no e.
     settled-left _ _ _ k no
-    (first-here (fileFaults (cipherIn file) file) _ (file-numbered (cipherIn file) file) k no e))
+    (first-here (keyedFaults (cipherIn file) (ringIn r file) file) _
+    (keyed-numbered (cipherIn file) (ringIn r file) file) k no
+    (file-first (cipherIn file) (ringIn r file) file k no e)))

@@ -9,6 +9,7 @@ use Rattle.refusals.specs.Numbers.{accepted}
 use Rattle.samples.proofs.Words.{Good, words-good}
 use Rattle.trivium.specs.Keystream.{trivium}
 use Rattle.enocoro.specs.Keystream.{enocoro}
+use Rattle.triad.specs.Tag.{triad}
 use Rattle.pack.specs.{Calls.openingPack, Ciphers.cipherIn, Ciphers.Rings, Ciphers.ringIn, Opposites.Opposites}
 use Rattle.pack.specs.Places.{partsOf}
 use Rattle.pack.proofs.Demand2.{opened-given}
@@ -60,6 +61,9 @@ opposites-trivium ring = opposites (λ file. trivium) (λ file. ring)
 
 pub opposites-enocoro : (ring : List (List ℕ)) → Opposites (λ file. enocoro) (λ file. ring)
 opposites-enocoro ring = opposites (λ file. enocoro) (λ file. ring)
+
+pub opposites-triad : (ring : List (List ℕ)) → Opposites (λ file. triad) (λ file. ring)
+opposites-triad ring = opposites (λ file. triad) (λ file. ring)
 
 -- for callers, under the cipher that a file is under
 pub opposites-picked : (r : Rings) → Opposites cipherIn (ringIn r)

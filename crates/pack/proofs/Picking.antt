@@ -16,7 +16,8 @@ use Rattle.pack.specs.Ciphers.{cipherOf, countOf, picked, Admitted, kind
 use Rattle.pack.specs.Faults.{nameSectionFaults, faultsFromKey, fileFaults}
 use Rattle.pack.specs.Places.{byteAt, keyPlace}
 use Rattle.pack.specs.{declared.Kind.Kind, declared.Kind.the-variants.Trivium}
-use Rattle.pack.specs.declared.Kind.the-variants.{Enocoro}
+use Rattle.pack.specs.declared.Kind.the-variants.{Enocoro, Triad}
+use Rattle.pack.specs.Layout.{tagLength}
 use Rattle.pack.proofs.AcceptedFiles.{key-right}
 
 -- ---- by the count
@@ -25,31 +26,42 @@ pub picks-enocoro : {count : ℕ} → count ≡ countOf Enocoro → picked count
 unfolding picked
 picks-enocoro {count} e = rw (eq-eqb count 9 e) refl
 
-pub picks-trivium : {count : ℕ} → count ≢ countOf Enocoro → picked count ≡ Trivium
+pub picks-triad : {count : ℕ} → count ≡ countOf Triad → picked count ≡ Triad
 unfolding picked
-picks-trivium {count} ne = rw (ne-eqb count 9 ne) refl
+picks-triad {count} e = rw (ne-eqb count 9 (omega arith), eq-eqb count 13 e) refl
+
+pub picks-trivium : {count : ℕ} → count ≢ countOf Enocoro → count ≢ countOf Triad → picked count ≡ Trivium
+unfolding picked
+picks-trivium {count} nine thirteen = rw (ne-eqb count 9 nine, ne-eqb count 13 thirteen) refl
 
 -- a cipher's own count picks it
 own-picked : (kind : Kind) → picked (countOf kind) ≡ kind
-own-picked Trivium = picks-trivium (λ e. omega arith)
+own-picked Trivium = picks-trivium (λ e. omega arith) (λ e. omega arith)
 own-picked Enocoro = picks-enocoro refl
+own-picked Triad = picks-triad refl
 
--- 11 and 9, and no other count, are the picked cipher's own
+-- 11, 9 and 13, and no other count, are the picked cipher's own
 pub admitted : (count : ℕ) → Admitted count
-admitted count = (go (eqb count 9) refl, λ either. ⊎-elim (own Trivium) (own Enocoro) either)
+admitted count = (
+  go (eqb count 9) (eqb count 13) refl refl,
+  λ any. ⊎-elim (own Trivium) (λ other. ⊎-elim (own Enocoro) (own Triad) other) any,
+)
   where
     own : (kind : Kind) → count ≡ countOf kind → count ≡ countOf (picked count)
     own kind e = e ∙ ap countOf (sym (ap picked e ∙ own-picked kind))
 
-    go : (b : Bool) → eqb count 9 ≡ b → count ≡ countOf (picked count)
-        → (count ≡ countOf Trivium) ⊎ (count ≡ countOf Enocoro)
-    go true e h = inr (eqb-true count 9 e)
-    go false e h = inl (h ∙ ap countOf (picks-trivium {count = count} (eqb-false count 9 e)))
+    go : (b c : Bool) → eqb count 9 ≡ b → eqb count 13 ≡ c → count ≡ countOf (picked count)
+        → (count ≡ countOf Trivium) ⊎ ((count ≡ countOf Enocoro) ⊎ (count ≡ countOf Triad))
+    go true c e f h = inr (inl (eqb-true count 9 e))
+    go false true e f h = inr (inr (eqb-true count 13 f))
+    go false false e f h =
+        inl (h ∙ ap countOf (picks-trivium {count = count} (eqb-false count 9 e) (eqb-false count 13 f)))
 
--- an initial value has at most ten bytes
-pub short-value : (kind : Kind) → cipherOf kind .valueBytes ≤ 10
+-- an initial value and a tag section have at most 21 bytes together
+pub short-value : (kind : Kind) → cipherOf kind .valueBytes + tagLength (cipherOf kind) ≤ 21
 short-value Trivium = omega arith
 short-value Enocoro = omega arith
+short-value Triad = omega arith
 
 -- ---- a file without a fault
 

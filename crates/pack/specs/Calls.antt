@@ -8,7 +8,7 @@ use Rattle.refusals.specs.{Numbers.accepted, Outcome.Outcome, Outcome.outcome, 
 use Rattle.pack.specs.Ciphers.{cipherOf, cipherIn, Rings, ringFor, ringIn}
 use Rattle.pack.specs.{Layout.Parts, Layout.layout, declared.Kind.Kind, declared.Opened.Opened}
 use Rattle.pack.specs.declared.Sealed.{Sealed}
-use Rattle.pack.specs.Faults.{fileFaults, openFaults, sealFaults}
+use Rattle.pack.specs.Faults.{fileFaults, keyedFaults, openFaults, sealFaults}
 use Rattle.pack.specs.Places.{nameCount, keyNumber, valuePlace, sampleCount, loopCount, loopsPlace, partsOf}
 
 -- the answer to a refused file, with the number of bytes that it lacks
@@ -45,14 +45,19 @@ acceptedOpening cipher file =
 abbrev pub lacksOf : Cipher → List ℕ → ℕ
 lacksOf cipher file = lacking (fileFaults cipher file)
 
--- what a file says of itself, room or not
+-- what a file says of itself, room or not; without keys nobody can look at its tag
 unfoldable pub surveying : Cipher → List ℕ → Opened
 surveying cipher file =
     settled (fileFaults cipher file) (acceptedOpening cipher file) (refusedOpening (lacksOf cipher file))
 
+-- the same for one who has keys, who looks at its tag too
+unfoldable pub inspecting : Cipher → List (List ℕ) → List ℕ → Opened
+inspecting cipher ring file =
+    settled (keyedFaults cipher ring file) (acceptedOpening cipher file) (refusedOpening (lacksOf cipher file))
+
 unfoldable pub openingPack : Cipher → List (List ℕ) → List ℕ → List ℤ → Outcome Opened ℤ
 openingPack cipher ring file output =
-    settled (openFaults cipher file (length output))
+    settled (openFaults cipher ring file (length output))
     (outcome (acceptedOpening cipher file) (placed output 0 (partsOf cipher ring file .samples)))
     (λ number. outcome (refusedOpening (lacksOf cipher file) number) output)
 
@@ -63,11 +68,14 @@ sealingPack cipher ring p output =
     (outcome (record { refusal = accepted; length = length file }) (placed output 0 file))
     (λ number. outcome (record { refusal = number; length = 0 }) output)
 
--- ---- for callers, who hold both rings
+-- ---- for callers, who hold all rings
 
 -- what a file says of itself, by the cipher that its key count picks
 abbrev pub surveyingFile : List ℕ → Opened
 surveyingFile file = surveying (cipherIn file) file
+
+abbrev pub inspectingFile : Rings → List ℕ → Opened
+inspectingFile r file = inspecting (cipherIn file) (ringIn r file) file
 
 abbrev pub openingFile : Rings → List ℕ → List ℤ → Outcome Opened ℤ
 openingFile r file output = openingPack (cipherIn file) (ringIn r file) file output

@@ -5,7 +5,7 @@ use mathlib.Core.{List.List, Path._≡_}
 use lib.{IntN.ℤ, ListN.length, ListN.getD, ListN.take}
 use Rattle.octets.specs.{Buffers.slice, Buffers.placed, Rows.numbersAt, Stream.Cipher}
 use Rattle.refusals.specs.{Numbers.accepted, Outcome.Outcome, Outcome.outcome}
-use Rattle.pack.specs.Calls.{surveyingFile, openingFile, sealingFile}
+use Rattle.pack.specs.Calls.{openingFile, sealingFile}
 use Rattle.pack.specs.Ciphers.{cipherOf, kindIn, Rings, ringFor}
 use Rattle.pack.specs.{declared.Kind.Kind, declared.Opened.Opened, declared.Sealed.Sealed}
 use Rattle.pack.specs.Layout.{Parts, parts, Within, fours, LaidFrom, layout}
@@ -71,9 +71,10 @@ pub record Demand2 (kind : Kind) (r : Rings) : Type 0 where
       let same = sealingFile kind r (inHand (cipherOf kind) file o) output ≡ sealedTo file output in
       o .answer .refusal ≡ accepted
       → (NoLowest (plainIn kind r file) → same) × (same → NoLowest (plainIn kind r file))
-  -- 5. a file is accepted as one of this cipher exactly if it is laid out under it from parts within their limits,
-  -- whatever the plain words
-  pub accepts : (file : List ℕ) → ((i : ℕ) → getD file i 0 < 256)
-      → let laidOut = (p : Parts) × (plain : List ℕ) × LaidUnder kind r p plain file in
-      let taken = (surveyingFile file .refusal ≡ accepted) × (kindIn file ≡ kind) in
+  -- 5. with room for its samples, a file is opened as one of this cipher exactly if it is laid out under it from parts
+  -- within their limits, whatever the plain words
+  pub accepts : (file : List ℕ) (sound : List ℤ) → ((i : ℕ) → getD file i 0 < 256)
+      → let laidOut = (p : Parts) × (plain : List ℕ) × LaidUnder kind r p plain file
+      × (length (p .samples) ≤ length sound) in
+      let taken = (openingFile r file sound .answer .refusal ≡ accepted) × (kindIn file ≡ kind) in
       (laidOut → taken) × (taken → laidOut)

@@ -5,11 +5,12 @@ use lib.ListN.{length}
 use Rattle.octets.specs.{Buffers.slice, Rows.numbersAt, Stream.Cipher}
 use Rattle.refusals.specs.Numbers.{badValue, noRoom, longName, badName, badKeyCount, badKeyNumber, manySamples}
 use Rattle.refusals.specs.Numbers.{lowestSample, manyLoops, badLoop, moreBytes, cutInName, cutInKey, cutInSamples}
-use Rattle.refusals.specs.Numbers.{cutInLoops}
+use Rattle.refusals.specs.Numbers.{cutInLoops, wrongTag, badTagSection}
 use Rattle.refusals.specs.Rules.{_over_, _unlike_, _endsBefore_, unless, Fault, _says_}
 use Rattle.pack.specs.Layout.{Parts, nameGood, samplesGood, loopsGood, fours}
 use Rattle.pack.specs.Limits.{mostName, lastKey, mostSamples, mostLoops}
-use Rattle.pack.specs.Places.{byteAt, nameEnd, keyEnd, samplesIn, samplesEnd, loopsEnd, sampleCount}
+use Rattle.pack.specs.{Layout.tagCount, Places.tagCountIn, Places.tagIn, Places.tagEnd, Places.tagPlace}
+use Rattle.pack.specs.Places.{byteAt, nameEnd, keyEnd, samplesIn, samplesEnd, loopsEnd, sampleCount, tagDue}
 
 -- Reading front to back. Of each section: its count, the count's limit, whether its body is all there, its body in file
 -- order. A section begins at `at`.
@@ -42,7 +43,7 @@ sampleSectionFaults file at =
     ∷ (length file endsBefore samplesEnd file at says cutInSamples)
     ∷ []
 
--- the loops' ends are held to the sample count, and behind the loops nothing stands
+-- the loops' ends are held to the sample count
 abbrev pub loopSectionFaults : List ℕ → ℕ → ℕ → List Fault
 loopSectionFaults file at samples =
     let count = byteAt file at in
@@ -50,28 +51,51 @@ loopSectionFaults file at samples =
     ∷ (count over mostLoops says manyLoops)
     ∷ (length file endsBefore loopsEnd file at says cutInLoops)
     ∷ (unless (loopsGood samples (numbersAt (fours (2 * count)) file (at + 1))) says badLoop)
-    ∷ (length file over loopsEnd file at says moreBytes)
     ∷ []
 
+-- behind the last section, which ends at `at`, nothing stands
+abbrev pub endFaults : List ℕ → ℕ → List Fault
+endFaults file at = (length file over at says moreBytes) ∷ []
+
+-- a tag's own rules, none of which is ever broken without one, and the end
+abbrev pub tagSectionFaults : Cipher → List ℕ → ℕ → List Fault
+tagSectionFaults cipher file at =
+    (length file endsBefore at + tagCount cipher says badTagSection)
+    ∷ (tagCountIn cipher file at unlike cipher .tagBytes says badTagSection)
+    ∷ (length file endsBefore tagEnd cipher at says badTagSection)
+    ∷ endFaults file (tagEnd cipher at)
+
 -- A section's rules, and behind them those of the section that begins where it ends.
-unfoldable pub faultsFromSamples : List ℕ → ℕ → List Fault
-faultsFromSamples file at =
-    sampleSectionFaults file at ++ loopSectionFaults file (samplesEnd file at) (samplesIn file at)
+abbrev pub faultsFromLoops : Cipher → List ℕ → ℕ → ℕ → List Fault
+faultsFromLoops cipher file at samples =
+    loopSectionFaults file at samples ++ tagSectionFaults cipher file (loopsEnd file at)
+
+unfoldable pub faultsFromSamples : Cipher → List ℕ → ℕ → List Fault
+faultsFromSamples cipher file at =
+    sampleSectionFaults file at ++ faultsFromLoops cipher file (samplesEnd file at) (samplesIn file at)
 
 unfoldable pub faultsFromKey : Cipher → List ℕ → ℕ → List Fault
 faultsFromKey cipher file at =
-    keySectionFaults cipher (ownCount cipher) file at ++ faultsFromSamples file (keyEnd cipher at)
+    keySectionFaults cipher (ownCount cipher) file at ++ faultsFromSamples cipher file (keyEnd cipher at)
 
--- what a file can have wrong in itself
+-- what a file can have wrong in itself, for one who has no keys
 unfoldable pub fileFaults : Cipher → List ℕ → List Fault
 fileFaults cipher file = nameSectionFaults file 0 ++ faultsFromKey cipher file (nameEnd file 0)
+
+-- and for one who has: its tag is the one that is due; without a tag both are 0
+abbrev pub tagFaults : Cipher → List (List ℕ) → List ℕ → List Fault
+tagFaults cipher ring file = (tagIn cipher file
+    (tagPlace cipher file) unlike tagDue cipher ring file says wrongTag) ∷ []
+
+unfoldable pub keyedFaults : Cipher → List (List ℕ) → List ℕ → List Fault
+keyedFaults cipher ring file = fileFaults cipher file ++ tagFaults cipher ring file
 
 -- what the lent room can have wrong, if so much is needed
 abbrev pub roomFaults : ℕ → ℕ → List Fault
 roomFaults needed room = (needed over room says noRoom) ∷ []
 
-unfoldable pub openFaults : Cipher → List ℕ → ℕ → List Fault
-openFaults cipher file room = fileFaults cipher file ++ roomFaults (sampleCount cipher file) room
+unfoldable pub openFaults : Cipher → List (List ℕ) → List ℕ → ℕ → List Fault
+openFaults cipher ring file room = keyedFaults cipher ring file ++ roomFaults (sampleCount cipher file) room
 
 -- Sealing: what the parts can have wrong in themselves, first the name.
 abbrev pub partNameFaults : List ℕ → List Fault

@@ -1,6 +1,6 @@
--- A pack as bytes of its parts: four sections in a fixed order, each after its count, numbers with the most significant
--- byte first.
-use Prim.Native.Nat.{ℕ, suc, _*_, _/_, _<_, _≤_}
+-- A pack as bytes of its parts: four sections in a fixed order, each after its count, and a fifth with the tag if its
+-- cipher brings one; numbers with the most significant byte first.
+use Prim.Native.Nat.{ℕ, suc, _+_, _*_, _/_, _<_, _≤_, min}
 use mathlib.Core.{Bool.Bool, Bool.true, Bool.false, Bool._&&_, List.List, List.[], List._∷_, List._++_, Path._≡_}
 use lib.{Dec.leb, Dec.ltb, IntN.ℤ, IntN.natAbs, ListN.length, ListN.getD, ListN.replicate}
 use Rattle.octets.specs.{Rows.row, Stream.Cipher, Stream.enciphered}
@@ -71,9 +71,32 @@ sampleSection cipher ring p plain =
 abbrev pub loopSection : Parts → List ℕ
 loopSection p = length (p .loops) / 2 ∷ row (fours (length (p .loops))) (p .loops)
 
+-- The fifth section is a row of two numbers, the tag's length and the tag. Of a cipher without one both have no bytes:
+-- the count of a tag has one byte, if there is a tag.
+abbrev pub tagCount : Cipher → ℕ
+tagCount cipher = min (cipher .tagBytes) 1
+
+abbrev pub tagLength : Cipher → ℕ
+tagLength cipher = tagCount cipher + cipher .tagBytes
+
+abbrev pub tagWidths : Cipher → List ℕ
+tagWidths cipher = tagCount cipher ∷ cipher .tagBytes ∷ []
+
+-- what a tag is over besides the plain bytes: sections 1 and 2, the sample count and section 4
+unfoldable pub associated : Cipher → Parts → List ℕ
+associated cipher p =
+    nameSection p ++ (keySection cipher p ++ (row (fours 1) (length (p .samples) ∷ []) ++ loopSection p))
+
+unfoldable pub tagSection : Cipher → List (List ℕ) → Parts → List ℕ → List ℕ
+tagSection cipher ring p plain =
+    row (tagWidths cipher)
+    (cipher .tagBytes ∷ cipher .tag (keyNamed ring (p .keyNumber)) (p .value) (associated cipher p) plain ∷ [])
+
 abbrev pub laid : Cipher → List (List ℕ) → Parts → List ℕ → List ℕ
 laid cipher ring p plain =
-    nameSection p ++ (keySection cipher p ++ (sampleSection cipher ring p plain ++ loopSection p))
+    nameSection p
+    ++ (keySection cipher p
+    ++ (sampleSection cipher ring p plain ++ (loopSection p ++ tagSection cipher ring p plain)))
 
 -- A file that is laid out from parts, with the samples read from the plain bytes. These need not be the samples' own:
 -- 80 00 is read as the same sample as 80 01.

@@ -7,3 +7,4 @@ pub mod Layout
 pub mod Limits
 pub mod Opposites
 pub mod Places
+pub mod Tags

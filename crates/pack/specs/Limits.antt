@@ -19,6 +19,6 @@ highestSample = 32767
 abbrev pub mostLoops : ℕ
 mostLoops = 8
 
--- the longest file under Trivium, which has every count at its limit
+-- the longest file, which is under TRIAD and has every count at its limit
 abbrev pub longestFile : ℕ
-longestFile = 32882
+longestFile = 32893

@@ -1,10 +1,10 @@
 -- Where things stand in a file. Each section is read by where it begins, and ends where the next one begins.
-use Prim.Native.Nat.{ℕ, _+_, _*_}
-use mathlib.Core.List.{List}
+use Prim.Native.Nat.{ℕ, _+_, _*_, _%_, _^_}
+use mathlib.Core.List.{List, _++_}
 use lib.ListN.{getD}
 use Rattle.octets.specs.{Buffers.slice, Digits.numberAt, Rows.numbersAt, Stream.Cipher, Stream.enciphered}
 use Rattle.samples.specs.Words.{wordsOf}
-use Rattle.pack.specs.Layout.{Parts, fours, keyNamed}
+use Rattle.pack.specs.Layout.{Parts, fours, keyNamed, tagCount}
 
 -- the byte at a place, or 0 past the end
 abbrev pub byteAt : List ℕ → ℕ → ℕ
@@ -26,6 +26,16 @@ samplesEnd file at = at + 4 + 2 * samplesIn file at
 
 abbrev pub loopsEnd : List ℕ → ℕ → ℕ
 loopsEnd file at = at + 1 + 8 * byteAt file at
+
+-- the tag section's count, its tag, and where it ends; all of it is nothing under a cipher without a tag
+abbrev pub tagCountIn : Cipher → List ℕ → ℕ → ℕ
+tagCountIn cipher file at = numberAt file at (tagCount cipher)
+
+abbrev pub tagIn : Cipher → List ℕ → ℕ → ℕ
+tagIn cipher file at = numberAt file (at + tagCount cipher) (cipher .tagBytes)
+
+abbrev pub tagEnd : Cipher → ℕ → ℕ
+tagEnd cipher at = at + tagCount cipher + cipher .tagBytes
 
 -- from a file's key section on: the plain bytes of its samples, under the key and the value that it names
 abbrev pub plainFrom : Cipher → List (List ℕ) → List ℕ → ℕ → List ℕ
@@ -87,3 +97,18 @@ module _ (cipher : Cipher) where
 
   unfoldable pub partsOf : List (List ℕ) → List ℕ → Parts
   partsOf ring file = partsFrom cipher ring (slice file 1 (nameCount file)) file (keyPlace file)
+
+  -- where the tag section begins
+  abbrev pub tagPlace : List ℕ → ℕ
+  tagPlace file = loopsEnd file (loopPlace file)
+
+  -- what the tag is over besides the plain bytes: all in front of the enciphered samples, and the loop section
+  abbrev pub associatedIn : List ℕ → List ℕ
+  associatedIn file = slice file 0 (bodyPlace file) ++ slice file (loopPlace file) (1 + 8 * loopCount file)
+
+  -- the tag that is due to a file, as much of it as a tag has
+  unfoldable pub tagDue : List (List ℕ) → List ℕ → ℕ
+  tagDue ring file =
+      cipher .tag (keyNamed ring (keyNumber file)) (slice file (valuePlace file) (cipher .valueBytes))
+      (associatedIn file) (plainOf ring file)
+      % 256 ^ cipher .tagBytes

@@ -1,11 +1,12 @@
 ghost use mathlib.Core.Path.{_≡_};
 ghost use Rattle.pack.specs.Ciphers.{cipherOf, countOf, picked};
-ghost use Rattle.pack.specs.Layout.{nameGood};
+ghost use Rattle.pack.specs.Layout.{nameGood, tagLength};
 
 // The ciphers that a pack may be under.
 pub enum Kind {
     Trivium,
     Enocoro,
+    Triad,
 }
 
 // What opening answers: `lacks` is how many bytes are missing of the section in which a file breaks off. A refused
@@ -42,6 +43,13 @@ pub const TRIVIUM_COUNT: u8 = 11;
 
 pub const ENOCORO_COUNT: u8 = 9;
 
+pub const TRIAD_COUNT: u8 = 13;
+
+// How many bytes a tag has, and its section with the count in front, where there is one.
+pub const TAG_BYTES: usize = 8;
+
+pub const TAG_SECTION: usize = 9;
+
 // The cipher that a key count picks.
 pub fn kind_of(count: u8) -> Kind
     ensures { λ r. ⌜ r ≡ picked count ⌝ }
@@ -49,18 +57,23 @@ pub fn kind_of(count: u8) -> Kind
     if count == ENOCORO_COUNT {
         return Kind::Enocoro;
     }
+    if count == TRIAD_COUNT {
+        return Kind::Triad;
+    }
     Kind::Trivium
 }
 
-// The count of the cipher that a key count picks. Any count but these two is not its own, and so is refused.
+// The count of the cipher that a key count picks. Any count but these three is not its own, and so is refused.
 pub fn own_count(count: u8) -> u8
     ensures { λ r. ⌜ r ≡ countOf (picked count) ⌝ }
 {
     if count == ENOCORO_COUNT {
-        ENOCORO_COUNT
-    } else {
-        TRIVIUM_COUNT
+        return ENOCORO_COUNT;
     }
+    if count == TRIAD_COUNT {
+        return TRIAD_COUNT;
+    }
+    TRIVIUM_COUNT
 }
 
 // How many bytes an initial value of a cipher has.
@@ -70,6 +83,18 @@ pub fn value_bytes(kind: Kind) -> usize
     match kind {
         Kind::Trivium => trivium::VALUE_BYTES,
         Kind::Enocoro => enocoro::VALUE_BYTES,
+        Kind::Triad => triad::VALUE_BYTES,
+    }
+}
+
+// How many bytes the tag section of a cipher has: its count and the tag, or nothing.
+pub fn tag_length(kind: Kind) -> usize
+    ensures { λ r. ⌜ r ≡ tagLength (cipherOf kind) ⌝ }
+{
+    match kind {
+        Kind::Trivium => 0,
+        Kind::Enocoro => 0,
+        Kind::Triad => TAG_SECTION,
     }
 }
 

@@ -10,9 +10,10 @@ use Rattle.refusals.proofs.Settled.{settled-number, answer-done}
 use Rattle.samples.proofs.Words.{Good}
 use Rattle.pack.specs.{Calls.acceptedOpening, Ciphers.cipherIn, Ciphers.ringIn, Places.sampleCount, Places.partsOf}
 use Rattle.rings.specs.Ring.{ringsOf}
-use Rattle.pack.specs.Faults.{faultsFromSamples, faultsFromKey, fileFaults, roomFaults, openFaults}
+use Rattle.pack.specs.Faults.{faultsFromSamples, faultsFromKey, fileFaults, keyedFaults, roomFaults, openFaults}
 use Rattle.pack.proofs.AcceptedFiles.{samples-counted}
 use Rattle.pack.proofs.Opposites.{front-at, good-opposite, given-good}
+use Rattle.pack.proofs.Theorems.{keyed-shown}
 use Rattle.survey_bytes.specs.Calls.{answerNumbers, numbersRoom}
 use Rattle.pack_bytes.specs.{Calls.PackOpened, Calls.packOpened, Calls.packOpenFaults, Calls.packOpen}
 use Rattle.pack_bytes.specs.Opposites.{PackOpposites}
@@ -30,18 +31,23 @@ module _ (file keys : List ℕ) (samples : List ℤ) (answer : List ℕ)
   done = answer-done _ _ _ (λ (o : PackOpened). o .number) refl (λ n. refl) refl taken
 
   right : AllRight (fileFaults (cipherIn file) file)
-  unfolding packOpen openFaults fileFaults faultsFromKey faultsFromSamples
+  unfolding packOpen openFaults keyedFaults fileFaults faultsFromKey faultsFromSamples
   right =
       let all = none-wrong (packOpenFaults file keys (length samples) (length answer)) tt
       (sym (settled-number _ _ _ (λ (o : PackOpened). o .number) refl (λ n. refl)) ∙ taken) in
+      let cipher = cipherIn file in
+      let ring = ringIn (ringsOf keys) file in
       let own =
-      right-both (openFaults (cipherIn file) file (length samples)) ((length answer under numbersRoom says noRoom) ∷ [])
+      right-both (openFaults cipher ring file (length samples)) ((length answer under numbersRoom says noRoom) ∷ [])
       (all .1) .0 in
-      right-both (fileFaults (cipherIn file) file) (roomFaults (sampleCount (cipherIn file) file) (length samples)) own .0
+      let keyed =
+      right-both (keyedFaults cipher ring file) (roomFaults (sampleCount cipher file) (length samples)) own .0 in
+      keyed-shown cipher ring file keyed .0
 
   counted : getD (packOpen file keys samples answer .answer) 0 0 ≡ length run
   unfolding placed
-  counted = ap (λ (o : PackOpened). getD (o .answer) 0 0) done ∙ sym (samples-counted (cipherIn file) (ringIn (ringsOf keys) file) file right)
+  counted = ap (λ (o : PackOpened). getD (o .answer) 0 0) done ∙ sym (samples-counted (cipherIn file) (ringIn
+      (ringsOf keys) file) file right)
 
   written-good : (i : ℕ) → i < length run → Good (getD (packOpen file keys samples answer .samples) i (pos 0))
   written-good i h =

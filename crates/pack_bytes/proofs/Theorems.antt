@@ -2,21 +2,22 @@
 -- the same rules of the file.
 use mathlib.Core.{Path._≡_, Path.refl, Path.sym, Path.ap, Path.subst, Path._∙_}
 use mathlib.Core.List.{List, [], _∷_, _++_, append-assoc}
-use Prim.Native.Nat.{ℕ, _<_}
+use Prim.Native.Nat.{ℕ}
 use native.Mathlib.Omega.{arith}
 use lib.{IntN.ℤ, ListN.length, ListN.take}
 use Rattle.octets.specs.{Buffers.placed, Rows.numbersAt}
 use Rattle.octets.proofs.{Buffers.take-placed, Rows.many-read}
-use Rattle.refusals.specs.{Numbers.accepted, Numbers.badKey, Numbers.noRoom, Numbers.cutInName, Outcome.Outcome}
+use Rattle.refusals.specs.{Numbers.accepted, Numbers.badKey, Numbers.noRoom, Outcome.Outcome}
 use Rattle.refusals.specs.{Outcome.outcome, Rules._under_, Rules._unlike_, Rules.Fault, Rules._says_, Rules.first}
 use Rattle.refusals.specs.Rules.{Leaves}
 use Rattle.refusals.proofs.Faults.{none-wrong, right-both, right-after, rule-passes, Each, by-verdict}
 use Rattle.refusals.proofs.Settled.{done-if, settled-number, settled-leaves, answer-done}
-use Rattle.pack.specs.Faults.{faultsFromSamples, faultsFromKey, fileFaults, roomFaults, openFaults}
+use Rattle.pack.specs.Faults.{faultsFromSamples, faultsFromKey, fileFaults, tagFaults, keyedFaults, roomFaults}
+use Rattle.pack.specs.Faults.{openFaults}
 use Rattle.pack.specs.{Calls.surveyingFile, Ciphers.cipherIn, Ciphers.ringIn, Cuts.CutsLack, Layout.Parts}
 use Rattle.pack.specs.{Layout.fours, Places.sampleCount, Places.loopsPlace, Places.partsOf}
 use Rattle.rings.specs.Ring.{ringsOf, keysBytes}
-use Rattle.pack.proofs.Cuts.{lacks-behind}
+use Rattle.pack.proofs.{Cuts.NoFour, Cuts.lacks-behind, Theorems.keyed-shown}
 use Rattle.record_bytes.specs.Written.{Written, wrote}
 use Rattle.survey_bytes.specs.Calls.{numbersRoom, packSurvey, packLacks, loopNumbers, packLoopsFaults, packLoops}
 use Rattle.survey_bytes.proofs.Theorems.{loops-of-parts}
@@ -36,14 +37,18 @@ pack-seal-leaves count keys p output before = settled-leaves _ _ _ (λ w. w .num
 survey-told : (file keys : List ℕ) (samples : List ℤ) (answer : List ℕ)
     → packOpen file keys samples answer .number ≡ accepted
     → packSurvey file answer ≡ outcome accepted (packOpen file keys samples answer .answer)
-unfolding packOpen packSurvey openFaults fileFaults faultsFromKey faultsFromSamples
+unfolding packOpen packSurvey openFaults keyedFaults fileFaults faultsFromKey faultsFromSamples
 survey-told file keys samples answer z =
     let right = none-wrong (packOpenFaults file keys (length samples) (length answer)) tt
     (sym (settled-number _ _ _ (λ (o : PackOpened). o .number) refl (λ n. refl)) ∙ z) in
+    let cipher = cipherIn file in
+    let ring = ringIn (ringsOf keys) file in
     let both =
-    right-both (openFaults (cipherIn file) file (length samples)) ((length answer under numbersRoom says noRoom) ∷ [])
+    right-both (openFaults cipher ring file (length samples)) ((length answer under numbersRoom says noRoom) ∷ [])
     (right .1) in
-    let own = right-both (fileFaults (cipherIn file) file) (roomFaults (sampleCount (cipherIn file) file) (length samples)) (both .0) in
+    let keyed =
+    right-both (keyedFaults cipher ring file) (roomFaults (sampleCount cipher file) (length samples)) (both .0) in
+    let own = keyed-shown cipher ring file (keyed .0) in
     sym
     (done-if _ _ _
     (right-after (fileFaults (cipherIn file) file) (roomFaults numbersRoom (length answer)) (own .0) (both .1 .0, tt)))
@@ -67,32 +72,37 @@ loops-told file keys run before z =
     ∙ take-placed run numbers (omega arith)
     ∙ loops-of-parts (ringIn (ringsOf keys) file) file
 
--- rules whose numbers are below those for a cut, as those of rooms are
-abbrev Below : ℕ → ℕ → Type 0
-Below number lacks = number < cutInName
+-- rules that have none of the four numbers for a cut, as those of rooms and of the tag
+abbrev Other : ℕ → ℕ → Type 0
+Other number lacks = NoFour number
 
-below-cuts : (faults : List Fault) → Each Below faults → first faults < cutInName
-below-cuts = by-verdict Below (omega arith)
+other-numbers : (faults : List Fault) → Each Other faults → NoFour (first faults)
+other-numbers = by-verdict Other (λ h. omega arith)
 
 cut-survey : (file answer : List ℕ) → CutsLack (packSurvey file answer .answer) (packLacks file)
 unfolding packSurvey packLacks
 cut-survey file answer =
     subst (λ (n : ℕ). CutsLack n (surveyingFile file .lacks))
     (sym (settled-number _ _ _ (λ (o : Outcome ℕ ℕ). o .answer) refl (λ n. refl)))
-    (lacks-behind (cipherIn file) file (roomFaults numbersRoom (length answer)) (below-cuts _ (λ _. omega arith, tt)))
+    (lacks-behind (cipherIn file) file (roomFaults numbersRoom (length answer)) (other-numbers _
+    (λ _ h. omega arith, tt)))
 
 cut-open : (file keys : List ℕ) (samples : List ℤ) (answer : List ℕ) → length keys ≡ keysBytes
     → CutsLack (packOpen file keys samples answer .number) (packLacks file)
-unfolding packOpen packLacks openFaults
+unfolding packOpen packLacks openFaults keyedFaults
 cut-open file keys samples answer right =
-    let some : List Fault = roomFaults (sampleCount (cipherIn file) file) (length samples) in
+    let cipher = cipherIn file in
+    let tag : List Fault = tagFaults cipher (ringIn (ringsOf keys) file) file in
+    let some : List Fault = roomFaults (sampleCount cipher file) (length samples) in
     let rest : List Fault = (length answer under numbersRoom says noRoom) ∷ [] in
     subst (λ (n : ℕ). CutsLack n (surveyingFile file .lacks))
     (sym
     (settled-number _ _ _ (λ (o : PackOpened). o .number) refl (λ n. refl)
     ∙ sym (rule-passes (length keys unlike keysBytes says badKey) _ right)
-    ∙ ap first (append-assoc (fileFaults (cipherIn file) file) some rest)))
-    (lacks-behind (cipherIn file) file (some ++ rest) (below-cuts _ (λ _. omega arith, (λ _. omega arith, tt))))
+    ∙ ap (λ (l : List Fault). first (l ++ rest)) (append-assoc (fileFaults cipher file) tag some)
+    ∙ ap first (append-assoc (fileFaults cipher file) (tag ++ some) rest)))
+    (lacks-behind cipher file ((tag ++ some) ++ rest)
+    (other-numbers _ (λ _ h. omega arith, (λ _ h. omega arith, (λ _ h. omega arith, tt)))))
 
 pub told-alike : (file keys : List ℕ) → ToldAlike file keys
 told-alike file keys =

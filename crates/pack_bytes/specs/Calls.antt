@@ -28,10 +28,12 @@ pub record PackOpened : Type 0 where
 abbrev pub packOpened : List ℤ → List ℕ → ℕ → PackOpened
 packOpened samples answer number = record { number = number; samples = samples; answer = answer }
 
--- the keys, then the file's own rules and room for its samples, then room for the seven numbers
+-- the keys, then the file's own rules, its tag and room for its samples, then room for the seven numbers
 abbrev pub packOpenFaults : List ℕ → List ℕ → ℕ → ℕ → List Fault
 packOpenFaults file keys samples answer =
-    keysFault keys ∷ (openFaults (cipherIn file) file samples ++ ((answer under numbersRoom says noRoom) ∷ []))
+    keysFault keys
+    ∷ (openFaults (cipherIn file) (ringIn (ringsOf keys) file) file samples
+    ++ ((answer under numbersRoom says noRoom) ∷ []))
 
 unfoldable pub packOpen : List ℕ → List ℕ → List ℤ → List ℕ → PackOpened
 packOpen file keys samples answer =

@@ -14,8 +14,10 @@ pub record ToldAlike (file keys : List ℕ) : Type 0 where
       o .number ≡ accepted → packSurvey file answer ≡ outcome accepted (o .answer)
   -- and its loops are those of its parts, as sealing takes them
   pub loops : (run : List ℕ) (before : ℕ) → let told = packLoops file run before in
-      told .number ≡ accepted → take (told .count) (told .buffer) ≡ partsOf (cipherIn file) (ringIn (ringsOf keys) file) file .loops
-  -- a file lacks bytes where it is surveyed with 30 to 33, or opened so with keys of 104 bytes, and nowhere else
+      told .number ≡ accepted → take (told .count) (told .buffer) ≡ partsOf (cipherIn file) (ringIn
+      (ringsOf keys) file) file .loops
+  -- a file lacks bytes where it is surveyed with 30 to 33, or opened so with keys of 168 bytes, and with no other
+  -- number but 45
   pub cut : (answer : List ℕ) → CutsLack (packSurvey file answer .answer) (packLacks file)
   pub cutOpening : (samples : List ℤ) (answer : List ℕ) → length keys ≡ keysBytes
       → CutsLack (packOpen file keys samples answer .number) (packLacks file)

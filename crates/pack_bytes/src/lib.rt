@@ -1,21 +1,9 @@
-// Packs for callers in other languages, who lend the rings of keys as one run of bytes. A refused call writes nothing of
-// all that it was lent.
+// Packs for callers in other languages, who lend the rings of keys as one run of bytes. A refused call writes nothing
+// of all that it was lent.
 ghost use mathlib.Core.Path.{_≡_};
-ghost use lib.ListN.{length};
 ghost use Rattle.pack.specs.Layout.{parts};
 ghost use Rattle.record_bytes.specs.Written.{wrote};
-ghost use Rattle.rings.specs.Ring.{keysBytes};
 ghost use Rattle.pack_bytes.specs.Calls.{packOpened, packOpen, packSeal};
-
-// The keys, all of them. An array's length is known where it is lent as an array.
-fn keys_in(bytes: &[u8]) -> [u8; 104]
-    requires { ⌜ length (now bytes) ≡ keysBytes ⌝ }
-    ensures { λ r. ⌜ r ≡ now (bytes .entry) ⌝ }
-{
-    let mut own = [0; rings::KEYS_BYTES];
-    octet_writer::copy(&mut own, 0, bytes);
-    own
-}
 
 pub fn open(file: &[u8], keys: &[u8], samples: &mut [i16], answer: &mut [usize]) -> u8
     ensures { λ r. ⌜ packOpened (now (samples .exit)) (now (answer .exit)) r
@@ -24,18 +12,19 @@ pub fn open(file: &[u8], keys: &[u8], samples: &mut [i16], answer: &mut [usize])
     if keys.len() != rings::KEYS_BYTES {
         return refusals::BAD_KEY;
     }
+    let own = rings::keys_in(keys);
+    let first = rings::trivium_ring(&own);
+    let second = rings::enocoro_ring(&own);
+    let third = rings::triad_ring(&own);
     if answer.len() < survey_bytes::NUMBERS {
-        let told = opener::survey(file);
+        let told = opener::inspect(file, first, second, third);
         let fault = told.refusal;
         if fault != refusals::ACCEPTED {
             return fault;
         }
         return refusals::NO_ROOM;
     }
-    let own = keys_in(keys);
-    let first = rings::trivium_ring(&own);
-    let second = rings::enocoro_ring(&own);
-    let opened = opener::open(file, first, second, samples);
+    let opened = opener::open(file, first, second, third, samples);
     let refusal = opened.refusal;
     if refusal != refusals::ACCEPTED {
         return refusal;
@@ -44,7 +33,7 @@ pub fn open(file: &[u8], keys: &[u8], samples: &mut [i16], answer: &mut [usize])
     refusals::ACCEPTED
 }
 
-// The cipher is told by its key count. A count of neither is looked at behind the name, where the file would have it.
+// The cipher is told by its key count. A count of none is looked at behind the name, where the file would have it.
 pub fn seal(
     name: &[u8],
     keys: &[u8],
@@ -71,15 +60,17 @@ pub fn seal(
         }
         return refusals::BAD_KEY_COUNT;
     }
-    let own = keys_in(keys);
+    let own = rings::keys_in(keys);
     let first = rings::trivium_ring(&own);
     let second = rings::enocoro_ring(&own);
+    let third = rings::triad_ring(&own);
     let kind = pack::kind_of(cipher);
     let sealed = sealer::seal(
         kind,
         name,
         first,
         second,
+        third,
         key,
         value,
         samples,

@@ -1,13 +1,13 @@
--- What the reading program prints of its input, 104 bytes of keys and then a pack: lines of ASCII codes.
+-- What the reading program prints of its input, 168 bytes of keys and then a pack: lines of ASCII codes.
 use Prim.Native.Nat.{ℕ, zero, suc, _+_}
 use mathlib.Core.List.{List, [], _∷_, _++_, map}
-use lib.ListN.{length, drop}
+use lib.ListN.{length, take, drop}
 use Rattle.octets.specs.{Buffers.slice, Buffers.put, Digits.digits}
 use Rattle.refusals.specs.{Numbers.badKey, Outcome.Outcome, Outcome.outcome}
 use Rattle.refusals.specs.Rules.{_under_, Fault, _says_, lacking, settled}
-use Rattle.pack.specs.{Ciphers.cipherIn, Faults.fileFaults, Places.nameCount, Places.keyNumber, Places.sampleCount}
-use Rattle.pack.specs.Places.{loopCount}
-use Rattle.rings.specs.Ring.{keysBytes}
+use Rattle.pack.specs.{Ciphers.cipherIn, Ciphers.ringIn, Ciphers.Rings, Faults.keyedFaults, Places.nameCount}
+use Rattle.pack.specs.Places.{keyNumber, sampleCount, loopCount}
+use Rattle.rings.specs.Ring.{keysBytes, ringsOf}
 
 -- digits without the zeros at their front, as long as one is left
 unfoldable pub trimmed : List ℕ → List ℕ
@@ -55,13 +55,18 @@ lackingText (suc n) = 32 ∷ decimal (suc n)
 unfoldable pub refusedLine : ℕ → ℕ → List ℕ
 refusedLine lacks number = line refusedWord (decimal number ++ lackingText lacks)
 
--- what stands behind the keys
+-- the keys, and what stands behind them
+abbrev pub keysIn : List ℕ → Rings
+keysIn input = ringsOf (take keysBytes input)
+
 abbrev pub packIn : List ℕ → List ℕ
 packIn input = drop keysBytes input
 
 -- the keys have to be all there, and then the pack decides
 abbrev pub inputFaults : List ℕ → List Fault
-inputFaults input = (length input under keysBytes says badKey) ∷ fileFaults (cipherIn (packIn input)) (packIn input)
+inputFaults input =
+    let file = packIn input in
+    (length input under keysBytes says badKey) ∷ keyedFaults (cipherIn file) (ringIn (keysIn input) file) file
 
 unfoldable pub textOf : List ℕ → List ℕ
 textOf input =

@@ -5,7 +5,11 @@ ghost use lib.ListN.{length};
 ghost use Rattle.octets.specs.Buffers.{put};
 ghost use Rattle.octets.specs.Digits.{digits};
 ghost use Rattle.refusals.specs.Outcome.{outcome};
+ghost use Rattle.pack.specs.Calls.{inspectingFile};
+ghost use Rattle.rings.specs.Ring.{keysBytes};
+ghost use Rattle.pack_text.specs.Text.{keysIn, packIn};
 ghost use Rattle.pack_text.specs.Text.{trimmed, decimal, line, nameWord, packLines, refusedLine, textOf, writing};
+use pack::Opened;
 
 // The decimal digit of a number that has so many digits below it.
 fn digit_above(value: u64, below: usize) -> u8
@@ -105,6 +109,18 @@ fn write_refused(d: &mut [u8], lacks: usize, number: u8) -> usize
     write_line(d, end, b" ", lacks as u64)
 }
 
+// What the pack behind the keys says of itself, under these keys.
+fn inspected(input: &[u8]) -> Opened
+    requires { ⌜ keysBytes ≤ length (now input) ⌝ }
+    ensures { λ r. ⌜ r ≡ inspectingFile (keysIn (now (input .entry))) (packIn (now (input .entry))) ⌝ }
+{
+    let keys = rings::keys_in(octets::slice(input, 0, rings::KEYS_BYTES));
+    let first = rings::trivium_ring(&keys);
+    let second = rings::enocoro_ring(&keys);
+    let third = rings::triad_ring(&keys);
+    opener::inspect(&input[rings::KEYS_BYTES..], first, second, third)
+}
+
 // Writes the text where there is room for it, whatever it says.
 fn write_text(d: &mut [u8], input: &[u8]) -> usize
     requires { ⌜ 128 ≤ length (now d) ⌝ }
@@ -114,14 +130,14 @@ fn write_text(d: &mut [u8], input: &[u8]) -> usize
     if input.len() < rings::KEYS_BYTES {
         return write_refused(d, 0, refusals::BAD_KEY);
     }
-    let file = &input[rings::KEYS_BYTES..];
-    let opened = opener::survey(file);
+    let opened = inspected(input);
     let refusal = opened.refusal;
     if refusal != refusals::ACCEPTED {
         return write_refused(d, opened.lacks, refusal);
     }
     let name_at = opened.name_at;
     let name_length = opened.name_length;
+    let file = &input[rings::KEYS_BYTES..];
     let name = octets::slice(file, name_at, name_length);
     write_pack(d, name, opened.key, opened.samples, opened.loops)
 }

@@ -247,6 +247,13 @@ lacking-passes f faults h = told-from lack 0 1 (f ∷ faults) (h, tt)
 
 -- ---- both numbers of a refusal
 
+-- rules behind others that lack nothing themselves don't change what is lacking
+pub lacking-append : (xs ys : List Fault) → lacking ys ≡ 0 → lacking (xs ++ ys) ≡ lacking xs
+unfolding lacking told
+lacking-append [] ys none = none
+lacking-append (f ∷ xs) ys none =
+    ap (λ (rest : ℕ). cond (broken (f .wrong)) (missing (f .wrong)) rest) (lacking-append xs ys none)
+
 pub verdict-right : (faults : List Fault) → AllRight faults → verdictOf accepted 0 ≡ verdict faults
 unfolding lacking
 verdict-right faults h = ap₂ verdictOf (all-right faults h) (told-right lack 0 faults h)

@@ -42,7 +42,7 @@ manyLoops = 16
 abbrev pub badLoop : ℕ
 badLoop = 17
 
--- bytes after the loops
+-- bytes after the last section
 abbrev pub moreBytes : ℕ
 moreBytes = 18
 
@@ -103,3 +103,11 @@ lowestSample = 34
 -- receiver: opening of its own session with another length
 abbrev pub otherLength : ℕ
 otherLength = 36
+
+-- the tag isn't the file's
+abbrev pub wrongTag : ℕ
+wrongTag = 38
+
+-- file ends inside its tag section, or the section's count isn't the tag's length
+abbrev pub badTagSection : ℕ
+badTagSection = 45

@@ -53,6 +53,10 @@ pub const LOWEST_SAMPLE: u8 = 34;
 
 pub const OTHER_LENGTH: u8 = 36;
 
+pub const WRONG_TAG: u8 = 38;
+
+pub const BAD_TAG_SECTION: u8 = 45;
+
 // What a file's rules come to: a number for no, and how many bytes the file lacks where it breaks off.
 pub struct Verdict {
     pub number: u8,

@@ -4,6 +4,7 @@ use Prim.Native.Nat.{ℕ, _+_, _≤_}
 use lib.ListN.{length, replicate, length-replicate}
 use Rattle.octets.specs.Buffers.{slice, put}
 use Rattle.octets.proofs.{Buffers.put-whole, Slices.length-slice}
+use Rattle.rings.specs.Ring.{keysBytes}
 
 pub key-copied : (size at : ℕ) (bytes : List ℕ) {part key : List ℕ} → key ≡ put (replicate size 0) 0 part
     → part ≡ slice bytes at size → at + size ≤ length bytes
@@ -12,3 +13,9 @@ key-copied size at bytes copied cut room =
     let blank : List ℕ = replicate size 0 in
     copied ∙ ap (put blank 0) cut
     ∙ put-whole blank (slice bytes at size) (length-slice bytes at size room ∙ sym (length-replicate {A = ℕ} size 0))
+
+-- all keys, from as many bytes
+pub whole : (bytes : List ℕ) {keys : List ℕ} → keys ≡ put (replicate keysBytes 0) 0 bytes → length bytes ≡ keysBytes
+    → keys ≡ bytes
+whole bytes e long =
+    e ∙ put-whole (replicate keysBytes 0) bytes (long ∙ sym (length-replicate {A = ℕ} keysBytes 0))

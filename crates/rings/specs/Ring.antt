@@ -4,6 +4,7 @@ use mathlib.Core.List.{List, [], _∷_}
 use Rattle.octets.specs.Buffers.{slice}
 use Rattle.trivium.specs.Keystream.{trivium}
 use Rattle.enocoro.specs.Keystream.{enocoro}
+use Rattle.triad.specs.Tag.{triad}
 use Rattle.pack.specs.Ciphers.{Rings, rings}
 
 -- four keys of so many bytes each, which stand one after the other from `at`
@@ -13,10 +14,17 @@ ringAt size at bytes =
     ∷ slice bytes (at + 3 * size) size
     ∷ []
 
--- Trivium's ring, and Enocoro's behind it
-abbrev pub ringsOf : List ℕ → Rings
-ringsOf bytes = rings (ringAt (trivium .keyBytes) 0 bytes) (ringAt (enocoro .keyBytes) (4 * trivium .keyBytes) bytes)
+-- where the rings begin: Trivium's, then Enocoro's, then TRIAD's; and so many bytes in all
+abbrev pub enocoroPlace : ℕ
+enocoroPlace = 4 * trivium .keyBytes
 
--- so many bytes in all
+abbrev pub triadPlace : ℕ
+triadPlace = enocoroPlace + 4 * enocoro .keyBytes
+
 abbrev pub keysBytes : ℕ
-keysBytes = 4 * trivium .keyBytes + 4 * enocoro .keyBytes
+keysBytes = triadPlace + 4 * triad .keyBytes
+
+abbrev pub ringsOf : List ℕ → Rings
+ringsOf bytes =
+    rings (ringAt (trivium .keyBytes) 0 bytes) (ringAt (enocoro .keyBytes) enocoroPlace bytes)
+    (ringAt (triad .keyBytes) triadPlace bytes)

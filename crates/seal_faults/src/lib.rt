@@ -5,7 +5,7 @@ ghost use Prim.Native.Nat.{_+_, _*_, _%_, _≤_};
 ghost use lib.ListN.{length};
 ghost use Rattle.pack.specs.Ciphers.{cipherOf};
 ghost use Rattle.pack.specs.Faults.{partNameFaults, sealFaults};
-ghost use Rattle.pack.specs.Layout.{parts, samplesGood, loopsGood};
+ghost use Rattle.pack.specs.Layout.{parts, samplesGood, loopsGood, tagLength};
 ghost use Rattle.refusals.specs.Rules.{first};
 use pack::Kind;
 
@@ -46,12 +46,12 @@ fn lowest_found(samples: &[i16]) -> u16
     found
 }
 
-// The length of a file whose name, initial value, samples and run of loops have these lengths.
-fn file_length(name: usize, value: usize, samples: usize, loops: usize) -> usize
-    requires { ⌜ (name ≤ 32) × (value ≤ 10) × (samples ≤ 16384) × (loops ≤ 16) ⌝ }
-    ensures { λ r. ⌜ r ≡ 8 + name + value + 2 * samples + 4 * loops ⌝ }
+// The length of a file whose name, initial value, samples, run of loops and tag section have these lengths.
+fn file_length(name: usize, value: usize, samples: usize, loops: usize, tag: usize) -> usize
+    requires { ⌜ (name ≤ 32) × (value + tag ≤ 21) × (samples ≤ 16384) × (loops ≤ 16) ⌝ }
+    ensures { λ r. ⌜ r ≡ 8 + name + value + 2 * samples + 4 * loops + tag ⌝ }
 {
-    8 + name + value + 2 * samples + 4 * loops
+    8 + name + value + 2 * samples + 4 * loops + tag
 }
 
 // What a name has wrong.
@@ -80,7 +80,7 @@ pub fn seal_fault(
     ensures { λ r. ⌜ r ≡ first (sealFaults (cipherOf kind)
         (parts (now (name .entry)) key (now (value .entry)) (now (samples .entry)) (now (loops .entry)))
         (8 + length (now (name .entry)) + length (now (value .entry)) + 2 * length (now (samples .entry))
-        + 4 * length (now (loops .entry))) room) ⌝ }
+        + 4 * length (now (loops .entry)) + tagLength (cipherOf kind)) room) ⌝ }
 {
     let fault = name_fault(name);
     if fault != refusals::ACCEPTED {
@@ -109,7 +109,8 @@ pub fn seal_fault(
     if !loops_in_rule(loops, samples.len()) {
         return refusals::BAD_LOOP;
     }
-    if room < file_length(name.len(), value.len(), samples.len(), loops.len()) {
+    let tag = pack::tag_length(kind);
+    if room < file_length(name.len(), value.len(), samples.len(), loops.len(), tag) {
         return refusals::NO_ROOM;
     }
     refusals::ACCEPTED

@@ -7,18 +7,18 @@ ghost use Rattle.octets.specs.Buffers.{put};
 ghost use Rattle.octets.specs.Rows.{row};
 ghost use Rattle.octets.specs.Stream.{enciphered};
 ghost use Rattle.samples.specs.Words.{bytesOfAll};
-ghost use Rattle.trivium.specs.Keystream as Trivium;
-ghost use Rattle.enocoro.specs.Keystream as Enocoro;
+ghost use Rattle.triad.specs.Tag.{triad};
 ghost use Rattle.pack.specs.Calls.{sealingFile};
 ghost use Rattle.pack.specs.Ciphers.{cipherOf, rings, ringFor};
-ghost use Rattle.pack.specs.Layout.{parts, fours, keyNamed};
+ghost use Rattle.pack.specs.Layout.{parts, fours, keyNamed, tagLength};
+ghost use Rattle.sealer.specs.Tags.{tagRow};
 ghost use Rattle.refusals.specs.Outcome.{outcome};
 use pack::Kind;
 use pack::Sealed;
 
 // All that stands before the enciphered samples: the name, the key and the sample count, each behind the other.
 fn write_front(output: &mut [u8], name: &[u8], key: u8, value: &[u8], samples: usize)
-    requires { ⌜ (length (now name) ≤ 32) × (length (now value) ≤ 10)
+    requires { ⌜ (length (now name) ≤ 32) × (length (now value) ≤ 21)
         × (7 + length (now name) + length (now value) ≤ length (now output)) ⌝ }
     ensures { λ _. ⌜ now (output .exit) ≡ put (now (output .entry)) 0
         ((length (now (name .entry)) ∷ now (name .entry))
@@ -52,30 +52,12 @@ fn write_loops(output: &mut [u8], at: usize, loops: &[u32])
     }
 }
 
-// Samples under Trivium, at their place. An array's length is known where it is lent as an array.
-fn write_trivium(key: &[u8; 10], value: &[u8], samples: &[i16], output: &mut [u8], at: usize)
-    requires { ⌜ length (now value) ≡ 10 ⌝ }
-    ensures { λ _. ⌜ now (output .exit) ≡ put (now (output .entry)) at (enciphered
-        (Trivium.trivium .stream (now (key .entry)) (now (value .entry))) (bytesOfAll (now (samples .entry)))) ⌝ }
-{
-    let made = trivium::Registers::new(key, value);
-    body_writer::write_samples(made.registers, samples, output, at);
-}
-
-// The same under Enocoro.
-fn write_enocoro(key: &[u8; 16], value: &[u8], samples: &[i16], output: &mut [u8], at: usize)
-    requires { ⌜ length (now value) ≡ 8 ⌝ }
-    ensures { λ _. ⌜ now (output .exit) ≡ put (now (output .entry)) at (enciphered
-        (Enocoro.enocoro .stream (now (key .entry)) (now (value .entry))) (bytesOfAll (now (samples .entry)))) ⌝ }
-{
-    enocoro_body::seal_body(key, value, samples, output, at);
-}
-
 // Samples under the key of its ring that a cipher and a key number name, at their place.
 fn write_body(
     kind: Kind,
     ring: [[u8; 10]; 4],
     second: [[u8; 16]; 4],
+    third: [[u8; 16]; 4],
     number: u8,
     value: &[u8],
     samples: &[i16],
@@ -84,18 +66,73 @@ fn write_body(
 )
     requires { ⌜ (number ≤ 3) × (length (now value) ≡ cipherOf kind .valueBytes) ⌝ }
     ensures { λ _. ⌜ now (output .exit) ≡ put (now (output .entry)) at (enciphered
-        (cipherOf kind .stream (keyNamed (ringFor kind (rings ring second)) number) (now (value .entry)))
+        (cipherOf kind .stream (keyNamed (ringFor kind (rings ring second third)) number) (now (value .entry)))
         (bytesOfAll (now (samples .entry)))) ⌝ }
 {
     let row = number as usize;
     match kind {
         Kind::Trivium => {
             let key = ring[row];
-            write_trivium(&key, value, samples, output, at);
+            body_writer::seal_body(&key, value, samples, output, at);
         }
         Kind::Enocoro => {
             let key = second[row];
-            write_enocoro(&key, value, samples, output, at);
+            enocoro_body::seal_body(&key, value, samples, output, at);
+        }
+        Kind::Triad => {
+            let key = third[row];
+            triad_body::seal_body(&key, value, samples, output, at);
+        }
+    }
+}
+
+// The tag section of a file under TRIAD that is written up to it: by what stands in the output before the body, in the
+// loop section, and in the body, which is enciphered and stands from `start` to `stop`.
+fn write_tag(
+    ring: [[u8; 16]; 4],
+    number: u8,
+    value: &[u8],
+    output: &mut [u8],
+    start: usize,
+    stop: usize,
+    at: usize,
+)
+    requires { ⌜ (number ≤ 3) × (length (now value) ≡ 12) × (start ≤ stop) × (stop ≤ at)
+        × (at + 9 ≤ length (now output)) ⌝ }
+    ensures { λ _. ⌜ now (output .exit) ≡ put (now (output .entry)) at
+        (tagRow triad (keyNamed ring number) (now (value .entry)) (now (output .entry)) start stop at) ⌝ }
+{
+    let row = number as usize;
+    let own = ring[row];
+    let front = octets::slice(output, 0, start);
+    let loops = octets::slice(output, stop, at - stop);
+    let body = octets::slice(output, start, stop - start);
+    let due = triad_body::tag_due(&own, value, front, loops, body);
+    octet_writer::write_number(output, at, 1, 8);
+    octet_writer::write_number(output, at + 1, 8, due);
+}
+
+// The same under any cipher: without a tag nothing is written.
+fn write_end(
+    kind: Kind,
+    ring: [[u8; 16]; 4],
+    number: u8,
+    value: &[u8],
+    output: &mut [u8],
+    start: usize,
+    stop: usize,
+    at: usize,
+)
+    requires { ⌜ (number ≤ 3) × (length (now value) ≡ cipherOf kind .valueBytes) × (start ≤ stop) × (stop ≤ at)
+        × (at + tagLength (cipherOf kind) ≤ length (now output)) ⌝ }
+    ensures { λ _. ⌜ now (output .exit) ≡ put (now (output .entry)) at
+        (tagRow (cipherOf kind) (keyNamed ring number) (now (value .entry)) (now (output .entry)) start stop at) ⌝ }
+{
+    match kind {
+        Kind::Trivium => {}
+        Kind::Enocoro => {}
+        Kind::Triad => {
+            write_tag(ring, number, value, output, start, stop, at);
         }
     }
 }
@@ -106,13 +143,14 @@ pub fn seal(
     name: &[u8],
     ring: [[u8; 10]; 4],
     second: [[u8; 16]; 4],
+    third: [[u8; 16]; 4],
     key: u8,
     value: &[u8],
     samples: &[i16],
     loops: &[u32],
     output: &mut [u8],
 ) -> Sealed
-    ensures { λ r. ⌜ outcome r (now (output .exit)) ≡ sealingFile kind (rings ring second)
+    ensures { λ r. ⌜ outcome r (now (output .exit)) ≡ sealingFile kind (rings ring second third)
         (parts (now (name .entry)) key (now (value .entry)) (now (samples .entry)) (now (loops .entry)))
         (now (output .entry)) ⌝ }
 {
@@ -125,12 +163,24 @@ pub fn seal(
     }
     let body_at = 7 + name.len() + value.len();
     let loop_at = body_at + 2 * samples.len();
-    let length = loop_at + 1 + 4 * loops.len();
+    let tag_at = loop_at + 1 + 4 * loops.len();
     write_front(output, name, key, value, samples.len());
-    write_body(kind, ring, second, key, value, samples, output, body_at);
+    write_body(
+        kind,
+        ring,
+        second,
+        third,
+        key,
+        value,
+        samples,
+        output,
+        body_at,
+    );
     write_loops(output, loop_at, loops);
+    write_end(kind, third, key, value, output, body_at, loop_at, tag_at);
+    let tag = pack::tag_length(kind);
     Sealed {
         refusal: refusals::ACCEPTED,
-        length,
+        length: tag_at + tag,
     }
 }

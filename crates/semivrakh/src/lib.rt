@@ -7,6 +7,7 @@ ghost use Rattle.record_bytes.specs.Ciphers.{ciphered};
 ghost use Rattle.record_bytes.specs.Written.{wrote};
 ghost use Rattle.cipher_bytes.specs.Calls.{cipherMake, cipherEncipher};
 ghost use Rattle.enocoro_bytes.specs.Calls.{enocoroMake, enocoroEncipher};
+ghost use Rattle.triad_bytes.specs.Calls.{triadMake, triadEncipher, triadTag};
 ghost use Rattle.survey_bytes.specs.Calls.{packSurvey, packLacks, packLoops};
 ghost use Rattle.pack_bytes.specs.Calls.{packOpened, packOpen, packSeal};
 ghost use Rattle.sender_bytes.specs.Calls.{senderMake, senderBegin, senderSend, senderHear};
@@ -15,7 +16,7 @@ ghost use Rattle.link_status.specs.Calls.{senderStatus, receiverStatus};
 ghost use Rattle.semivrakh.specs.Version.{version};
 
 // Ten thousand times the version's first number, a hundred times its second, and its third.
-const VERSION: u32 = 600;
+const VERSION: u32 = 700;
 
 #[no_mangle]
 pub extern "C" fn semivrakh_version() -> u32
@@ -62,6 +63,36 @@ pub extern "C" fn semivrakh_enocoro_encipher(
         ≡ enocoroEncipher (now (cipher .entry)) (now (input .entry)) (now (output .entry)) ⌝ }
 {
     enocoro_bytes::encipher(cipher, input, output)
+}
+
+#[no_mangle]
+pub extern "C" fn semivrakh_triad_make(cipher: &mut [u8], key: &[u8], value: &[u8]) -> u8
+    ensures { λ r. ⌜ outcome r (now (cipher .exit))
+        ≡ triadMake (now (cipher .entry)) (now (key .entry)) (now (value .entry)) ⌝ }
+{
+    triad_bytes::make(cipher, key, value)
+}
+
+#[no_mangle]
+pub extern "C" fn semivrakh_triad_encipher(cipher: &mut [u8], input: &[u8], output: &mut [u8]) -> u8
+    ensures { λ r. ⌜ ciphered (now (cipher .exit)) (now (output .exit)) r
+        ≡ triadEncipher (now (cipher .entry)) (now (input .entry)) (now (output .entry)) ⌝ }
+{
+    triad_bytes::encipher(cipher, input, output)
+}
+
+#[no_mangle]
+pub extern "C" fn semivrakh_triad_tag(
+    key: &[u8],
+    value: &[u8],
+    associated: &[u8],
+    message: &[u8],
+    tag: &mut [u8],
+) -> u8
+    ensures { λ r. ⌜ outcome r (now (tag .exit)) ≡ triadTag (now (key .entry)) (now (value .entry))
+        (now (associated .entry)) (now (message .entry)) (now (tag .entry)) ⌝ }
+{
+    triad_bytes::tag(key, value, associated, message, tag)
 }
 
 #[no_mangle]

@@ -1,7 +1,7 @@
 -- Trivium's keystream: bits in the order of 6.3.1, and bytes by the byte rule.
 use Prim.Native.Nat.{ℕ, zero, suc, _*_}
 use mathlib.Core.List.{List, [], _∷_}
-use Rattle.octets.specs.{Digits.byteOf, Stream.Keystream, Stream.Cipher}
+use Rattle.octets.specs.{Digits.byteOf, Stream.Keystream, Stream.Cipher, Stream.untagged}
 use Rattle.taps.specs.Registers.{State, outputBit, next, steps, started}
 
 -- the next n keystream bits, each read before its step
@@ -15,4 +15,4 @@ keystream s n = byteOf (bits 8 (steps (8 * n) s))
 
 -- the keystream of a key and an initial value, of ten bytes each
 abbrev pub trivium : Cipher
-trivium = record { keyBytes = 10; valueBytes = 10; stream = λ key iv. keystream (started key iv) }
+trivium = untagged 10 10 (λ key iv. keystream (started key iv))

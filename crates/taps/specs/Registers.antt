@@ -1,20 +1,12 @@
 -- Trivium's internal state and how it moves: ISO/IEC 29192-3, 6.3.2 to 6.3.5, over whole numbers.
-use Prim.Native.Nat.{ℕ, zero, suc, _+_, _-_, _*_, _/_, _%_, _^_}
+use Prim.Native.Nat.{ℕ, zero, suc, _+_, _-_, _*_, _%_}
 use mathlib.Core.List.{List, [], _∷_, _++_}
 use lib.ListN.{replicate}
 use Rattle.octets.specs.Digits.{number, bitsOf}
+pub use Rattle.shift_registers.specs.Registers.{State, _⟨i-_⟩, moved}
 
--- A register of w bits is a number below 2 ^ w. Its newest bit, x(i-1), is the number's lowest, and its oldest, x(i-w),
--- the highest.
-pub record State : Type 0 where
-  pub a : ℕ
-  pub b : ℕ
-  pub c : ℕ
-
-infixl 90 _⟨i-_⟩
--- x(i-k)
-abbrev pub _⟨i-_⟩ : ℕ → ℕ → ℕ
-x ⟨i- k ⟩ = x / 2 ^ (k - 1) % 2
+-- Three registers, x(i-k) as x ⟨i- k ⟩, and how a register moves: all as `shift_registers` has them. a has 93 bits,
+-- b 84 and c 111.
 
 -- a register whose bits are given oldest first
 abbrev pub register : List ℕ → ℕ
@@ -46,10 +38,6 @@ newB s = newBit 93 66 78 (s .a) (s .b)
 
 abbrev pub newC : State → ℕ
 newC s = newBit 84 69 87 (s .b) (s .c)
-
--- the new bit comes in, and the oldest of the w bits goes
-abbrev pub moved : ℕ → ℕ → ℕ → ℕ
-moved w x new = (2 * x + new) % 2 ^ w
 
 -- 6.3.4 b)
 unfoldable pub next : State → State

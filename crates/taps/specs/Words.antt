@@ -1,11 +1,9 @@
 -- Registers in words of 64 bits, and what steps make of them.
-use Prim.Native.Nat.{ℕ, _+_, _-_, _*_, _/_, _%_, _^_}
+use Prim.Native.Nat.{ℕ, _%_, _^_}
 use Rattle.octets.specs.Digits.{number}
-use Rattle.taps.specs.{Keystream.bits, Registers.State, Registers.steps, declared.Newest.Newest}
-
--- a register of w bits in two words: the bits from w on are spare, and ignored
-abbrev pub joined : ℕ → ℕ → ℕ → ℕ
-joined w upper lower = (upper * 2 ^ 64 + lower) % 2 ^ w
+use Rattle.shift_registers.specs.declared.Newest.{Newest}
+pub use Rattle.shift_registers.specs.Words.{joined, shifted}
+use Rattle.taps.specs.{Keystream.bits, Registers.State, Registers.steps}
 
 -- the registers in six words, the upper of each first
 abbrev pub ofWords : ℕ → ℕ → ℕ → ℕ → ℕ → ℕ → State
@@ -20,7 +18,3 @@ newest n s =
       b = steps n s .b % 2 ^ 64;
       c = steps n s .c % 2 ^ 64;
     }
-
--- 64 bits of two words, from the one that has n before it; the last 64 from n = 64 on
-abbrev pub shifted : ℕ → ℕ → ℕ → ℕ
-shifted upper lower n = (upper * 2 ^ 64 + lower) / 2 ^ (64 - n) % 2 ^ 64

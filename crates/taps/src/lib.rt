@@ -1,14 +1,8 @@
 ghost use mathlib.Core.Path.{_≡_};
 ghost use Prim.Native.Nat.{min};
-ghost use Rattle.taps.specs.Words.{ofWords, newest, shifted};
-
-// What steps put out, the first bit as the most significant, and what each register then has as its newest word.
-pub struct Newest {
-    pub z: u64,
-    pub a: u64,
-    pub b: u64,
-    pub c: u64,
-}
+ghost use Rattle.taps.specs.Words.{ofWords, newest};
+use shift_registers::Newest;
+use shift_registers::shifted;
 
 // One step. Every tap lies 66 bits back or more, so all of them are in the upper words.
 pub fn step(a1: u64, a0: u64, b1: u64, b0: u64, c1: u64, c0: u64) -> Newest
@@ -57,18 +51,4 @@ pub fn short_stride(a1: u64, a0: u64, b1: u64, b0: u64, c1: u64, c0: u64, n: usi
         b: shifted(b0, all.b, n),
         c: shifted(c0, all.c, n),
     }
-}
-
-// 64 bits of two words, from the one that has n before it. The compiler drops what isn't asked for: n is a literal, or
-// tested once for all words that are shifted by it.
-pub fn shifted(upper: u64, lower: u64, n: usize) -> u64
-    ensures { λ r. ⌜ r ≡ shifted upper lower n ⌝ }
-{
-    if n == 0 {
-        return upper;
-    }
-    if 64 <= n {
-        return lower;
-    }
-    (upper << n) | (lower >> (64 - n))
 }

@@ -2,8 +2,9 @@
 use mathlib.Core.{Path._≡_, Path.sym, Path.ap, Path.subst, Path._∙_, List.List}
 use Prim.Native.Nat.{ℕ, _+_, _*_, _^_, _<_}
 use Rattle.octets.specs.Digits.{number}
+use Rattle.shift_registers.proofs.Words.{joined-apart}
 use Rattle.taps.specs.{Keystream.bits, Registers.State, Registers.loaded, Registers.started, Registers.steps}
-use Rattle.taps.proofs.{Steps.held-words, Steps.held-moved, Steps.bits-small, Strides.strode, Words.joined-apart}
+use Rattle.taps.proofs.{Steps.held-words, Steps.held-moved, Steps.bits-small, Strides.strode}
 use Rattle.trivium.specs.Calls.{runningFrom, running, stopping, skipping}
 use Rattle.trivium.specs.{Record.state, Record.packed, declared.Ran.Ran, declared.Registers.Registers}
 use Rattle.trivium.specs.declared.Running.{Running}

@@ -137,13 +137,13 @@ impl Registers {
     }
 
     // n bits and n steps, by what the taps give for them. The upper words move up, and spare bits go.
-    fn moved(self, n: usize, new: taps::Newest) -> Strode
+    fn moved(self, n: usize, new: shift_registers::Newest) -> Strode
         requires { ⌜ (n ≤ 64) × (new ≡ newest n (state self)) ⌝ }
         ensures { λ r. ⌜ r ≡ strides n self ⌝ }
     {
-        let a1 = taps::shifted(self.a1, self.a0, n);
-        let b1 = taps::shifted(self.b1, self.b0, n);
-        let c1 = taps::shifted(self.c1, self.c0, n);
+        let a1 = shift_registers::shifted(self.a1, self.a0, n);
+        let b1 = shift_registers::shifted(self.b1, self.b0, n);
+        let c1 = shift_registers::shifted(self.c1, self.c0, n);
         Strode {
             word: new.z,
             next: Registers {

@@ -1,5 +1,5 @@
--- `enocoro_body::read_chunk` meets its contract: the chunk holds the deciphered bytes at its front, and their words go to
--- their place.
+-- `enocoro_body::read_chunk` meets its contract: the chunk holds the deciphered bytes at its front, and their words go
+-- to their place.
 use mathlib.Core.{Path._≡_, Path.ap, Path._∙_, List.List}
 use Prim.Native.Nat.{ℕ, _/_}
 use native.Mathlib.Omega.{arith}
@@ -10,7 +10,7 @@ use Rattle.octets.proofs.Slices.{length-slice}
 use Rattle.refusals.specs.Outcome.{Outcome}
 use Rattle.samples.specs.Words.{wordOf}
 use Rattle.samples.proofs.Bodies.{part-read}
-use Rattle.enocoro.specs.{Calls.skipping, Calls.ahead, Calls.enciphering, declared.Enciphered.Enciphered}
+use Rattle.enocoro.specs.{Calls.ahead, Calls.enciphering, declared.Enciphered.Enciphered}
 use Rattle.enocoro.proofs.Theorems.{enciphers, enciphered-there, stream-skip}
 use Rattle.enocoro_body.proofs.read_chunk.Statement.{statement}
 use Rattle.enocoro_body.proofs.read_chunk.Tie as tie

@@ -1,5 +1,5 @@
--- `enocoro_body::read_samples` meets its contract: after each turn the samples of the first `at` bytes are in place, and the
--- registers have gone as far.
+-- `enocoro_body::read_samples` meets its contract: after each turn the samples of the first `at` bytes are in place,
+-- and the registers have gone as far.
 use mathlib.Core.{Path._≡_, Path.refl, Path.sym, Path.ap, Path._∙_, List.List}
 use Prim.Native.Nat.{ℕ, _+_, _-_, _%_, _≤_}
 use native.Mathlib.Omega.{arith}

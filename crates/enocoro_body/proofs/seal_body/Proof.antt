@@ -1,35 +1,28 @@
--- `enocoro_body::seal_body` meets its contract: what was made decides, and a cipher that was made has its key's
--- keystream.
-use mathlib.Core.{Path._≡_, Path._∙_, List.List}
-use Prim.Native.Nat.{ℕ}
+-- `enocoro_body::seal_body` meets its contract: the value's length decides, since the key's is known.
+use mathlib.Core.Path.{ap, _∙_}
 use native.Mathlib.Omega.{arith}
 use borrow.Author.Needs.{needs}
 use Rattle.octets.specs.{Buffers.put, Stream.Keystream, Stream.enciphered}
+use Rattle.refusals.proofs.Settled.{done-if, left-at}
 use Rattle.samples.specs.Words.{bytesOfAll}
-use Rattle.enocoro_body.proofs.{Made.not-made, Made.made, seal_body.Statement.statement}
+use Rattle.enocoro_body.proofs.seal_body.Statement.{statement}
 use Rattle.enocoro_body.proofs.seal_body.Tie as tie
 
--- what is written under a keystream
-abbrev work : tie.Start → Keystream → List ℕ
-work s k = put (s .args .output .now) (s .args .at) (enciphered k (bytesOfAll (s .args .samples .now)))
-
 returns : tie.Need-returns
-returns c =
-    let s = c .before .before .before .before .before in
-    not-made (work s) (s .args .output .now) (s .args .key .now) (s .args .value .now) (c .before .new .ensures)
-    (c .if1 .taken)
+returns c = left-at _ _ _ 0 tt (omega arith)
+
+begun-requires : tie.Need-begun-requires
+begun-requires c κs = (c .begun-arg .given .0, omega arith)
 
 returns-2 : tie.Need-returns-2
 returns-2 c =
     let write = c .before .before in
-    let e = write .before .before in
-    let lent = e .before .before in
-    let s = lent .before .before .before in
+    let begun = write .before .before in
+    let p = begun .before .before .before .before .before .args in
     write .write-samples .ensures
-    ∙ made (work s) (s .args .output .now) (s .args .key .now) (s .args .value .now) (e .before .new .ensures)
-    (e .if1 .left) (λ i. omega (arith, lent .before .before .shared-slice-known .given i))
-    (λ i. omega (arith, lent .before .shared-slice-known2 .given i))
+    ∙ ap (λ (k : Keystream). put (p .output .now) (p .at) (enciphered k (bytesOfAll (p .samples .now))))
+    (begun .begun .ensures)
+    ∙ done-if _ _ _ (omega arith, tt)
 
 pub seal-body-spec : {M : Type 1} → statement M
-seal-body-spec =
-    tie.close (tie.spec (λ c κs. search needs) returns (λ c κs. search needs) (λ c. search needs) returns-2)
+seal-body-spec = tie.close (tie.spec returns begun-requires (λ c κs. search needs) (λ c. search needs) returns-2)

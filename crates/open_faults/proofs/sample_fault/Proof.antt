@@ -6,29 +6,29 @@ use native.Mathlib.Omega.{arith}
 use borrow.Author.Needs.{needs}
 use Rattle.refusals.specs.Rules.{verdict}
 use Rattle.refusals.proofs.Faults.{verdict-at, verdict-from}
-use Rattle.pack.specs.Faults.{loopSectionFaults, faultsFromSamples}
+use Rattle.pack.specs.Faults.{faultsFromLoops, faultsFromSamples}
 use Rattle.open_faults.proofs.sample_fault.Statement.{statement}
 use Rattle.open_faults.proofs.sample_fault.Tie as tie
 
 returns : tie.Need-returns
 unfolding faultsFromSamples
-returns c = c .verdict .ensures ∙ verdict-at 0 _ (omega arith) (omega arith) (omega arith)
+returns c cipher e = c .verdict .ensures ∙ verdict-at 0 _ (omega arith) (omega arith) (omega arith)
 
 returns-2 : tie.Need-returns-2
 unfolding faultsFromSamples
-returns-2 c = c .verdict2 .ensures ∙ verdict-at 1 _ (omega arith) (omega arith) (omega arith)
+returns-2 c cipher e = c .verdict2 .ensures ∙ verdict-at 1 _ (omega arith) (omega arith) (omega arith)
 
 returns-3 : tie.Need-returns-3
 unfolding faultsFromSamples
-returns-3 c = c .verdict3 .ensures ∙ verdict-at 2 _ (omega arith) (omega arith) (omega arith)
+returns-3 c cipher e = c .verdict3 .ensures ∙ verdict-at 2 _ (omega arith) (omega arith) (omega arith)
 
 returns-4 : tie.Need-returns-4
 unfolding faultsFromSamples
-returns-4 c =
+returns-4 c cipher e =
     let read = c .before .before .before in
     let p = read .before .before .before .args in
-    c .loop-fault .ensures
-    ∙ ap (λ (n : ℕ). verdict (loopSectionFaults (p .file .now) (p .at + 4 + 2 * n) n)) (read .four-there .ensures)
+    c .loop-fault .ensures cipher e
+    ∙ ap (λ (n : ℕ). verdict (faultsFromLoops cipher (p .file .now) (p .at + 4 + 2 * n) n)) (read .four-there .ensures)
     ∙ verdict-from 3 _ (omega arith)
 
 pub sample-fault-spec : {M : Type 1} → statement M

@@ -16,5 +16,9 @@ returns c = omega (arith, ap size (c .enum-told .given .1))
 returns-2 : tie.Need-returns-2
 returns-2 c = omega (arith, ap size (c .enum-told2 .given .1))
 
+returns-3 : tie.Need-returns-3
+returns-3 c = omega (arith, ap size (c .enum-told3 .given .1))
+
 pub value-bytes-spec : {M : Type 1} → statement M
-value-bytes-spec = tie.close (tie.spec (λ c. search needs) (λ c. search needs) returns returns-2)
+value-bytes-spec = tie.close (tie.spec (λ c. search needs) (λ c. search needs)
+    (λ c. search needs) returns returns-2 returns-3)

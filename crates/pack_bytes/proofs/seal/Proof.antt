@@ -1,5 +1,5 @@
--- `pack_bytes::seal` meets its contract: the keys' length decides, then the name and the cipher's count, then the sealer's
--- number.
+-- `pack_bytes::seal` meets its contract: the keys' length decides, then the name and the cipher's count, then the
+-- sealer's number.
 use mathlib.Core.{Path._≡_, Path.refl, Path.sym, Path.ap, Path._∙_, List.List}
 use Prim.Native.Nat.{ℕ}
 use native.Mathlib.Omega.{arith}
@@ -10,7 +10,8 @@ use Rattle.refusals.specs.Rules.{first}
 use Rattle.refusals.proofs.Settled.{left-at, settled-left, settled-done, answer-number, answer-done, answer-left}
 use Rattle.pack.specs.{Calls.sealingPack, Calls.sealingFile, Ciphers.picked, Ciphers.rings, Layout.parts}
 use Rattle.pack.specs.{Demand2.fileOf, declared.Sealed.Sealed}
-use Rattle.rings.specs.Ring.{ringAt, ringsOf}
+use Rattle.rings.specs.Ring.{ringAt, ringsOf, enocoroPlace, triadPlace}
+use Rattle.rings.proofs.Keys.{whole}
 use Rattle.record_bytes.specs.Written.{wrote}
 use Rattle.pack_bytes.specs.Calls.{packSealFaults, packSeal}
 use Rattle.pack_bytes.proofs.{Sealing.sealer-decides, Sealing.name-refuses, Sealing.count-refuses}
@@ -19,20 +20,24 @@ use Rattle.pack_bytes.proofs.seal.Tie as tie
 
 -- the sealer's own outcome, under the cipher that the count picks and with the rings that the bytes are
 own : (s : tie.After-seal)
-    → let t = s .before .before .before .before .before .before .before .before .before in
+    → let t = s .before .before .before .before .before .before .before .before .before .before .before in
     let p = t .before .before .before .before .before .before .before .args in
-    outcome (s .seal .result) (s .seal .last .1 .1 .1 .1 .1 .1 .1 .1 .0)
+    outcome (s .seal .result) (s .seal .last .1 .1 .1 .1 .1 .1 .1 .1 .1 .0)
     ≡ sealingFile (picked (p .cipher)) (ringsOf (p .keys .now))
     (parts (p .name .now) (p .key) (p .value .now) (p .samples .now) (p .loops .now))
     (p .output .now)
 own s =
-    let k = s .before .before .before .before .before .before .before in
-    let p = k .before .before .before .before .before .before .before .before .before .args in
-    let one = s .before .before .before .before .before .trivium-ring .ensures ∙ ap (ringAt 10 0) (k .keys-in .ensures) in
-    let two = s .before .before .before .enocoro-ring .ensures ∙ ap (ringAt 16 40) (k .keys-in .ensures) in
+    let r = s .before .before .before in
+    let k = r .before .before .before .before .before .before in
+    let t = k .before .before in
+    let p = t .before .before .before .before .before .before .before .args in
+    let keys = whole (p .keys .now) (k .keys-in .ensures) (t .before .if1 .left) in
+    let one = r .before .before .before .before .trivium-ring .ensures ∙ ap (ringAt 10 0) keys in
+    let two = r .before .before .enocoro-ring .ensures ∙ ap (ringAt 16 enocoroPlace) keys in
+    let three = r .triad-ring .ensures ∙ ap (ringAt 16 triadPlace) keys in
     let kind = s .before .before .kind-of .ensures in
     s .seal .ensures
-    ∙ (λ i. sealingFile (kind i) (rings (one i) (two i))
+    ∙ (λ i. sealingFile (kind i) (rings (one i) (two i) (three i))
     (parts (p .name .now) (p .key) (p .value .now) (p .samples .now) (p .loops .now)) (p .output .now))
 
 returns : tie.Need-returns
@@ -65,7 +70,7 @@ returns-3 c =
 
 -- the number that the sealer found is the one that is due
 found : (s : tie.After-seal) (n : ℕ)
-    → let t = s .before .before .before .before .before .before .before .before .before in
+    → let t = s .before .before .before .before .before .before .before .before .before .before .before in
     let p = t .before .before .before .before .before .before .before .args in
     let sound = parts (p .name .now) (p .key) (p .value .now) (p .samples .now) (p .loops .now) in
     let size = length (fileOf (picked (p .cipher)) (ringsOf (p .keys .now)) sound) in
@@ -73,20 +78,21 @@ found : (s : tie.After-seal) (n : ℕ)
     → n ≡ first (packSealFaults (p .cipher) (p .keys .now) sound size (length (p .output .now)))
 unfolding sealingPack
 found s n e =
-    let t = s .before .before .before .before .before .before .before .before .before in
+    let t = s .before .before .before .before .before .before .before .before .before .before .before in
     let p = t .before .before .before .before .before .before .before .args in
     e
     ∙ answer-number _ _ _ (λ o. o .answer .refusal) refl (λ m. refl) (own s)
     ∙ sealer-decides (p .cipher) (p .keys .now)
     (parts (p .name .now) (p .key) (p .value .now) (p .samples .now) (p .loops .now)) _ (length (p .output .now))
     (t .before .if1 .left)
-    (omega (arith, s .before .before .before .before .before .before .before .before .if2 .left, t .own-count .ensures))
+    (omega
+    (arith, s .before .before .before .before .before .before .before .before .before .before .if2 .left, t .own-count .ensures))
 
 returns-4 : tie.Need-returns-4
 unfolding packSeal sealingPack
 returns-4 c =
     let s = c .before .before .before in
-    let t = s .before .before .before .before .before .before .before .before .before in
+    let t = s .before .before .before .before .before .before .before .before .before .before .before in
     let p = t .before .before .before .before .before .before .before .args in
     let n : ℕ = s .seal .result .refusal in
     ap (λ (o : Outcome Sealed ℕ). wrote (o .buffer) (p .written .now) n)
@@ -105,5 +111,6 @@ returns-5 c =
 pub seal-spec : {M : Type 1} → statement M
 seal-spec =
     tie.close
-    (tie.spec returns (λ c κs. search needs) (λ c κs. search needs) returns-2 returns-3 (λ c κs. search needs) (λ c κs. search needs)
-    (λ c κs. search needs) (λ c κs. search needs) (λ c κs. search needs) (λ c. search needs) returns-4 (λ c. search needs) returns-5)
+    (tie.spec returns (λ c κs. search needs) (λ c κs. search needs) returns-2 returns-3 (λ c κs. search needs)
+    (λ c κs. search needs) (λ c κs. search needs) (λ c κs. search needs) (λ c κs. search needs)
+    (λ c κs. search needs) (λ c. search needs) returns-4 (λ c. search needs) returns-5)

@@ -1,20 +1,10 @@
--- `rings::enocoro_ring` meets its contract: key by key, each from where the one before it ends.
-use mathlib.Core.List.{[], _∷_}
+-- `rings::enocoro_ring` meets its contract: the ring stands where the keys before it end.
 use borrow.Author.Needs.{needs}
-use Rattle.rings.specs.Ring.{ringAt}
 use Rattle.rings.proofs.enocoro_ring.Statement.{statement}
 use Rattle.rings.proofs.enocoro_ring.Tie as tie
 
 returns : tie.Need-returns
-unfolding ringAt
-returns c =
-    λ i. c .before .before .before .before .before .before .enocoro-key .ensures i
-    ∷ c .before .before .before .before .enocoro-key2 .ensures i
-    ∷ c .before .before .enocoro-key3 .ensures i
-    ∷ c .enocoro-key4 .ensures i
-    ∷ []
+returns c = c .long-ring .ensures
 
 pub enocoro-ring-spec : {M : Type 1} → statement M
-enocoro-ring-spec =
-    tie.close
-    (tie.spec (λ c κs. search needs) (λ c κs. search needs) (λ c κs. search needs) (λ c κs. search needs) returns)
+enocoro-ring-spec = tie.close (tie.spec (λ c κs. search needs) returns)

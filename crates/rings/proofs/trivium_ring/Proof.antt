@@ -8,10 +8,10 @@ use Rattle.rings.proofs.trivium_ring.Tie as tie
 returns : tie.Need-returns
 unfolding ringAt
 returns c =
-    λ i. c .before .before .before .before .before .before .trivium-key .ensures i
-    ∷ c .before .before .before .before .trivium-key2 .ensures i
-    ∷ c .before .before .trivium-key3 .ensures i
-    ∷ c .trivium-key4 .ensures i
+    λ i. c .before .before .before .before .before .before .short-key .ensures i
+    ∷ c .before .before .before .before .short-key2 .ensures i
+    ∷ c .before .before .short-key3 .ensures i
+    ∷ c .short-key4 .ensures i
     ∷ []
 
 pub trivium-ring-spec : {M : Type 1} → statement M

@@ -107,7 +107,7 @@ returns-8 c =
 returns-9 : tie.Need-returns-9
 unfolding sealFaults
 returns-9 c =
-    let last = c .before .before in
+    let last = c .before .before .before in
     let e = last .before .before .before .before in
     let n = named (after-name (e .before .before .before)) in
     refused-so 9 _ (
@@ -127,7 +127,7 @@ returns-9 c =
 returns-10 : tie.Need-returns-10
 unfolding sealFaults
 returns-10 c =
-    let last = c .before .before in
+    let last = c .before .before .before in
     let e = last .before .before .before .before in
     let n = named (after-name (e .before .before .before)) in
     all-right _ (
@@ -146,14 +146,13 @@ returns-10 c =
 
 file-length-requires : tie.Need-file-length-requires
 file-length-requires c κs =
-    let p = after-name (c .before .before .before .before .before .before .before) .before .before .before .before
-    .before in
-    let n = named (after-name (c .before .before .before .before .before .before .before)) in
-    omega (arith, short-value (p .args .kind), n)
+    let e = after-name (c .before .before .before .before .before .before .before .before) in
+    let p = e .before .before .before .before .before in
+    omega (arith, short-value (p .args .kind), named e)
 
 pub seal-fault-spec : {M : Type 1} → statement M
 seal-fault-spec =
     tie.close
     (tie.spec (λ c κs. search needs) returns (λ c κs. search needs) returns-2 returns-3 (λ c κs. search needs)
     (λ c. search needs) returns-4 returns-5 (λ c. search needs) returns-6 returns-7 (λ c κs. search needs) returns-8
-    file-length-requires returns-9 returns-10)
+    (λ c κs. search needs) file-length-requires returns-9 returns-10)

@@ -1,6 +1,7 @@
 -- `taps::short_stride` meets its contract: n of the 64 steps push in the first n bits of each word.
 use mathlib.Core.Path.{sym, ap, _∙_}
-use Rattle.taps.proofs.Strides.{late, words-newest, late-newest}
+use Rattle.shift_registers.proofs.Strides.{late}
+use Rattle.taps.proofs.Strides.{words-newest, late-newest}
 use Rattle.taps.proofs.short_stride.Statement.{statement}
 use Rattle.taps.proofs.short_stride.Tie as tie
 

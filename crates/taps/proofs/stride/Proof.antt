@@ -2,8 +2,8 @@
 use mathlib.Core.Path.{_∙_}
 use Prim.Native.Nat.{ℕ}
 use native.Mathlib.Omega.{arith}
-use Rattle.taps.proofs.{Strides.words, Strides.words-newest, stride.Statement.statement}
-use Rattle.taps.proofs.Words.{Within, here, rule, sum, run-joined}
+use Rattle.shift_registers.proofs.{Strides.words, Words.Within, Words.here, Words.run-joined}
+use Rattle.taps.proofs.{Strides.words-newest, Words.rule, Words.sum, stride.Statement.statement}
 use Rattle.taps.proofs.stride.Tie as tie
 
 returns : tie.Need-returns

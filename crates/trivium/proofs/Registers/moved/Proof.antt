@@ -2,8 +2,9 @@
 use mathlib.Core.Path.{_≡_, sym, _∙_}
 use Prim.Native.Nat.{ℕ, _+_, _-_, _/_, _%_, _^_}
 use native.Mathlib.Omega.{arith}
+use Rattle.shift_registers.proofs.Words.{upper-grown}
 use Rattle.taps.specs.{Registers.State, Words.newest}
-use Rattle.taps.proofs.{Strides.partly, Strides.small-front, Words.upper-grown}
+use Rattle.taps.proofs.Strides.{partly, small-front}
 use Rattle.trivium.specs.Record.{state, packed}
 use Rattle.trivium.proofs.{Steps.held-state, Registers.moved.Statement.statement}
 use Rattle.trivium.proofs.Registers.moved.Tie as tie

@@ -1,20 +1,10 @@
 -- `trivium::Running::stop` meets its contract: a remainder of an upper word is what its register has there.
-use mathlib.Core.Path.{_≡_, sym, ap, _∙_}
-use Prim.Native.Nat.{ℕ, _+_, _*_, _/_, _%_, _^_, _<_}
+use Prim.Native.Nat.{_^_, _<_}
 use native.Mathlib.Omega.{arith}
-use lib.Pow.{field, mod-mod-pow, high, low}
-use Rattle.taps.specs.Words.{joined}
+use Rattle.shift_registers.proofs.Words.{upper-kept, lower-kept}
 use Rattle.trivium.specs.{Calls.stopping, Record.state, Record.packed}
 use Rattle.trivium.proofs.Running.stop.Statement.{statement}
 use Rattle.trivium.proofs.Running.stop.Tie as tie
-
--- p bits of a register in its upper word
-upper-kept : (p upper lower : ℕ) → lower < 2 ^ 64 → upper % 2 ^ p ≡ joined (p + 64) upper lower / 2 ^ 64
-upper-kept p upper lower h =
-    sym (field (upper * 2 ^ 64 + lower) p 64 ∙ ap (λ (v : ℕ). v % 2 ^ p) (high upper 64 h))
-
-lower-kept : (p upper lower : ℕ) → lower < 2 ^ 64 → lower ≡ joined (p + 64) upper lower % 2 ^ 64
-lower-kept p upper lower h = sym (mod-mod-pow (upper * 2 ^ 64 + lower) p 64 ∙ low upper 64 h)
 
 returns : tie.Need-returns
 unfolding stopping state packed

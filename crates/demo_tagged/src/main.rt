@@ -1,0 +1,25 @@
+// Makes the demo pack with a tag: the demo sound, sealed under a TRIAD key of the demo ring, written to standard
+// output.
+use pack::Kind;
+
+fn main() {
+    let sound = demo_sound::choir();
+    let keys = demo_sound::KEYS;
+    let rack_keys = demo_sound::RACK_KEYS;
+    let deal_keys = demo_sound::DEAL_KEYS;
+    let mut file = demo_sound::room();
+    let sealed = sealer::seal(
+        Kind::Triad,
+        b"Dealer",
+        keys,
+        rack_keys,
+        deal_keys,
+        3,
+        b"demo value 1",
+        &sound,
+        &[2048, 8192],
+        &mut file,
+    );
+    let length = sealed.length;
+    io::write_all(1, octets::slice(&file, 0, length));
+}

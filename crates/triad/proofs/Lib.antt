@@ -1,0 +1,4 @@
+pub mod Bytes
+pub mod Loading
+pub mod Steps
+pub mod Theorems

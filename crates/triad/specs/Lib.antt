@@ -1,0 +1,6 @@
+pub mod Calls
+pub mod Engines
+pub mod Keystream
+pub mod Record
+pub mod State
+pub mod Tag

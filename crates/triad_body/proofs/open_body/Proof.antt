@@ -1,0 +1,27 @@
+-- `triad_body::open_body` meets its contract: the value's length decides, since the key's is known.
+use mathlib.Core.Path.{ap, _∙_}
+use native.Mathlib.Omega.{arith}
+use borrow.Author.Needs.{needs}
+use Rattle.octets.specs.{Buffers.put, Stream.Keystream, Stream.enciphered}
+use Rattle.refusals.proofs.Settled.{done-if, left-at}
+use Rattle.samples.specs.Words.{wordsOf}
+use Rattle.triad_body.proofs.open_body.Statement.{statement}
+use Rattle.triad_body.proofs.open_body.Tie as tie
+
+returns : tie.Need-returns
+returns c = left-at _ _ _ 0 tt (omega arith)
+
+begun-requires : tie.Need-begun-requires
+begun-requires c κs = (c .begun-arg .given .0, omega arith)
+
+returns-2 : tie.Need-returns-2
+returns-2 c =
+    let read = c .before in
+    let begun = read .before .before in
+    let p = begun .before .before .before .before .before .args in
+    read .read-samples .ensures
+    ∙ ap (λ (k : Keystream). put (p .output .now) 0 (wordsOf (enciphered k (p .body .now)))) (begun .begun .ensures)
+    ∙ done-if _ _ _ (omega arith, tt)
+
+pub open-body-spec : {M : Type 1} → statement M
+open-body-spec = tie.close (tie.spec returns begun-requires (λ c κs. search needs) (λ c. search needs) returns-2)

@@ -1,0 +1,174 @@
+// The bodies of packs under TRIAD, apart from their faults: enciphered bytes, read as samples, and samples, written as
+// enciphered bytes; and the tag over a whole pack.
+ghost use mathlib.Core.List.{_++_, reverse};
+ghost use mathlib.Core.Path.{_≡_};
+ghost use Prim.Native.Nat.{_+_, _/_, _≤_};
+ghost use lib.ListN.{length};
+ghost use Rattle.octets.specs.Buffers.{slice, put};
+ghost use Rattle.octets.specs.Digits.{digits};
+ghost use Rattle.octets.specs.Stream.{from, enciphered};
+ghost use Rattle.samples.specs.Words.{wordsOf, bytesOfAll};
+ghost use Rattle.ciphers.specs.Calls.{valueFaults};
+ghost use Rattle.refusals.specs.Rules.{settled};
+ghost use Rattle.triad.specs.Calls.{makingTag, ahead, absorbing, absorbingUnder};
+ghost use Rattle.triad.specs.Tag.{padded, triad};
+use triad::Made;
+use triad::Registers;
+
+// How many bytes are deciphered at a time.
+const CHUNK: usize = 1024;
+
+// Room for them. Its length is all that anybody needs to know of it.
+fn blank() -> [u8; 1024]
+    ensures { λ r. ⌜ 1024 ≡ length r ⌝ }
+{
+    [0; CHUNK]
+}
+
+// So many bytes of the body from `at`, deciphered and read as samples to their place; and the registers behind them.
+fn read_chunk(
+    registers: Registers,
+    body: &[u8],
+    output: &mut [i16],
+    at: usize,
+    size: usize,
+) -> Registers
+    requires { ⌜ (size ≤ 1024) × (at + size ≤ length (now body)) × (at / 2 + size / 2 ≤ length (now output)) ⌝ }
+    ensures { λ r. ⌜ (ahead r ≡ from size (ahead registers)) × (now (output .exit) ≡ put (now (output .entry)) (at / 2)
+        (wordsOf (enciphered (ahead registers) (slice (now (body .entry)) at size)))) ⌝ }
+{
+    let mut chunk = blank();
+    let done = registers.encipher(octets::slice(body, at, size), &mut chunk);
+    let place = at / 2;
+    sample_runs::read_words(octets::slice(&chunk, 0, size), &mut output[place..]);
+    done.next
+}
+
+// A body deciphered chunk by chunk to the front of the output, if its samples have room there.
+fn read_samples(start: Registers, body: &[u8], output: &mut [i16])
+    ensures { λ _. ⌜ now (output .exit)
+        ≡ put (now (output .entry)) 0 (wordsOf (enciphered (ahead start) (now (body .entry)))) ⌝ }
+{
+    let n = body.len();
+    if output.len() < n / 2 {
+        return;
+    }
+    let mut registers = start;
+    let mut at = 0;
+    while at + CHUNK <= n {
+        registers = read_chunk(registers, body, output, at, CHUNK);
+        at += CHUNK;
+    }
+    read_chunk(registers, body, output, at, n % CHUNK);
+}
+
+// All samples, as bytes and enciphered, from `at`, if they have room there. As bytes they are written all at once,
+// which the compiler does eight at a time, and then enciphered.
+fn write_samples(start: Registers, samples: &[i16], output: &mut [u8], at: usize)
+    ensures { λ _. ⌜ now (output .exit)
+        ≡ put (now (output .entry)) at (enciphered (ahead start) (bytesOfAll (now (samples .entry)))) ⌝ }
+{
+    let n = 2 * samples.len();
+    if output.len() < at {
+        return;
+    }
+    if output.len() - at < n {
+        return;
+    }
+    sample_runs::write_words(samples, &mut output[at..]);
+    let end = at + n;
+    start.cover(&mut output[at..end]);
+}
+
+// The cipher of a key and an initial value.
+fn begun(key: &[u8], value: &[u8]) -> Registers
+    requires { ⌜ (length (now key) ≡ 16) × (length (now value) ≡ 12) ⌝ }
+    ensures { λ r. ⌜ ahead r ≡ triad .stream (now (key .entry)) (now (value .entry)) ⌝ }
+{
+    let made = Registers::new(key, value);
+    made.registers
+}
+
+// A body under a key and an initial value, read as samples to the front of the output, if the value has its length and
+// the samples have room.
+pub fn open_body(key: &[u8; 16], value: &[u8], body: &[u8], output: &mut [i16])
+    ensures { λ _. ⌜ now (output .exit) ≡ settled (valueFaults triad (now (value .entry)))
+        (put (now (output .entry)) 0
+        (wordsOf (enciphered (triad .stream (now (key .entry)) (now (value .entry))) (now (body .entry)))))
+        (λ number. now (output .entry)) ⌝ }
+{
+    if value.len() != triad::VALUE_BYTES {
+        return;
+    }
+    read_samples(begun(key, value), body, output);
+}
+
+// Samples under a key and an initial value, as enciphered bytes from `at`, if the value has its length and the bytes
+// have room.
+pub fn seal_body(key: &[u8; 16], value: &[u8], samples: &[i16], output: &mut [u8], at: usize)
+    ensures { λ _. ⌜ now (output .exit) ≡ settled (valueFaults triad (now (value .entry)))
+        (put (now (output .entry)) at
+        (enciphered (triad .stream (now (key .entry)) (now (value .entry))) (bytesOfAll (now (samples .entry)))))
+        (λ number. now (output .entry)) ⌝ }
+{
+    if value.len() != triad::VALUE_BYTES {
+        return;
+    }
+    write_samples(begun(key, value), samples, output, at);
+}
+
+// How many bytes the associated data are: seven bytes, the low one first.
+fn length_bytes(n: u64) -> [u8; 7]
+    ensures { λ r. ⌜ r ≡ reverse (digits 256 7 n) ⌝ }
+{
+    [
+        (n % 256) as u8,
+        ((n >> 8) % 256) as u8,
+        ((n >> 16) % 256) as u8,
+        ((n >> 24) % 256) as u8,
+        ((n >> 32) % 256) as u8,
+        ((n >> 40) % 256) as u8,
+        ((n >> 48) % 256) as u8,
+    ]
+}
+
+// Registers for a tag, which take another first bit than those for a keystream.
+fn tag_begun(key: &[u8], value: &[u8]) -> Made
+    ensures { λ r. ⌜ r ≡ makingTag (now (key .entry)) (now (value .entry)) ⌝ }
+{
+    Registers::new_tag(key, value)
+}
+
+// The associated data taken in, which are the front and the loops, and their length.
+pub fn with_data(start: Registers, front: &[u8], loops: &[u8]) -> Registers
+    ensures { λ r. ⌜ r ≡ absorbing start (padded (now (front .entry) ++ now (loops .entry))) ⌝ }
+{
+    let size = length_bytes((front.len() + loops.len()) as u64);
+    let one = start.absorb(front);
+    let two = one.absorb(loops);
+    two.absorb(&size)
+}
+
+// The message taken in, which is lent enciphered.
+fn with_body(start: Registers, cipher: Registers, body: &[u8]) -> Registers
+    ensures { λ r. ⌜ r ≡ absorbingUnder start cipher (now (body .entry)) ⌝ }
+{
+    start.absorb_under(cipher, body)
+}
+
+// The tag that is due to a pack under a key and an initial value, if the value has its length: over all that stands
+// before the body and behind it, as associated data, and over what the body deciphers to.
+pub fn tag_due(key: &[u8; 16], value: &[u8], front: &[u8], loops: &[u8], body: &[u8]) -> u64
+    ensures { λ r. ⌜ r ≡ settled (valueFaults triad (now (value .entry)))
+        (triad .tag (now (key .entry)) (now (value .entry)) (now (front .entry) ++ now (loops .entry))
+        (enciphered (triad .stream (now (key .entry)) (now (value .entry))) (now (body .entry))))
+        (λ number. 0) ⌝ }
+{
+    if value.len() != triad::VALUE_BYTES {
+        return 0;
+    }
+    let made = tag_begun(key, value);
+    let padded = with_data(made.registers, front, loops);
+    let all = with_body(padded, begun(key, value), body);
+    all.tag()
+}

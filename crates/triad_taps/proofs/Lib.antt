@@ -1,0 +1,3 @@
+pub mod Strides
+pub mod Turned
+pub mod Words
