@@ -73,5 +73,5 @@ pub fn cover(
         return;
     }
     let registers = cipher(key, pair, session, k);
-    registers.encipher(run, &mut buffer[at..]);
+    trivium_runs::encipher(registers, run, &mut buffer[at..]);
 }

@@ -77,7 +77,7 @@ fn read_rest(registers: Registers, body: &[u8], output: &mut [i16], at: usize, s
         (wordsOf (enciphered (keystream (state registers)) (slice (now (body .entry)) at size))) ⌝ }
 {
     let mut chunk = blank();
-    registers.encipher(octets::slice(body, at, size), &mut chunk);
+    trivium_runs::encipher(registers, octets::slice(body, at, size), &mut chunk);
     let place = at / 2;
     sample_runs::read_words(octets::slice(&chunk, 0, size), &mut output[place..]);
 }

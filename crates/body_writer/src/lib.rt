@@ -63,7 +63,7 @@ fn cover_rest(running: Running, body: &mut [u8], at: usize)
     let size = body.len() % 16;
     octet_writer::copy(&mut chunk, 0, octets::slice(body, at, size));
     let registers = running.stop();
-    registers.encipher(octets::slice(&chunk, 0, size), &mut body[at..]);
+    trivium_runs::encipher(registers, octets::slice(&chunk, 0, size), &mut body[at..]);
 }
 
 // Bytes enciphered where they stand.

@@ -1,22 +1,36 @@
--- A cipher's bytes read back are the cipher, and 48 bytes, read and written, are the same bytes: both by the laws of
--- rows.
+-- A cipher's bytes read back are the cipher, and 48 bytes, read and written, are the same bytes: both are so of six
+-- words.
 use mathlib.Core.{Path._≡_, Path.ap, Path._∙_, List.List}
 use Prim.Native.Nat.{ℕ}
-use native.Mathlib.Omega.{arith}
-use lib.{ListN.length, Seq.take-all}
-use Rattle.octets.specs.Rows.{numbersAt, Fits}
-use Rattle.octets.proofs.{Numbers.Below, Rows.length-row, Rows.numbers-row, Rows.row-back}
+use lib.ListN.{length}
+use Rattle.octets.specs.{Buffers.put, Rows.Fits}
+use Rattle.octets.proofs.Numbers.{Below}
+use Rattle.record_bytes.specs.SixWords.{sixWidths, sixNumbers, sixBytes, sixIn}
+use Rattle.record_bytes.specs.declared.SixWords.{SixWords}
+use Rattle.record_bytes.proofs.Sixes.{length-six, six-back, six-again}
 use Rattle.trivium.specs.declared.Registers.{Registers}
-use Rattle.cipher_bytes.specs.Record.{cipherWidths, cipherSize, cipherNumbers, cipherBytes, registersOf, cipherIn}
+use Rattle.cipher_bytes.specs.Record.{cipherSize, sixOf, cipherBytes, registersOf, cipherIn}
 
 pub length-cipher : (r : Registers) → length (cipherBytes r) ≡ cipherSize
 unfolding cipherBytes
-length-cipher r = length-row cipherWidths (cipherNumbers r)
+length-cipher r = length-six (sixOf r)
 
-pub cipher-back : (r : Registers) → Fits cipherWidths (cipherNumbers r) → cipherIn (cipherBytes r) ≡ r
+pub cipher-back : (r : Registers) → Fits sixWidths (sixNumbers (sixOf r)) → cipherIn (cipherBytes r) ≡ r
 unfolding cipherIn cipherBytes
-cipher-back r fits = ap registersOf (numbers-row cipherWidths (cipherNumbers r) fits)
+cipher-back r fits = ap registersOf (six-back (sixOf r) fits)
 
 pub cipher-again : (bytes : List ℕ) → Below 256 bytes → length bytes ≡ cipherSize → cipherBytes (cipherIn bytes) ≡ bytes
-unfolding cipherIn cipherBytes numbersAt
-cipher-again bytes b long = row-back cipherWidths bytes 0 (omega arith) b ∙ take-all cipherSize bytes (omega arith)
+unfolding cipherIn cipherBytes
+cipher-again = six-again
+
+-- so the calls on six words do for a cipher
+pub cipher-read : (bytes : List ℕ) {w : SixWords} {r : Registers} → w ≡ sixIn bytes → r ≡ registersOf w
+    → r ≡ cipherIn bytes
+unfolding cipherIn
+cipher-read bytes read made = made ∙ ap registersOf read
+
+pub cipher-written : (r : Registers) (d : List ℕ) {after : List ℕ} {w : SixWords} → w ≡ sixOf r
+    → after ≡ put d 0 (sixBytes w)
+    → after ≡ put d 0 (cipherBytes r)
+unfolding cipherBytes
+cipher-written r d made written = written ∙ ap (λ (w : SixWords). put d 0 (sixBytes w)) made

@@ -12,10 +12,10 @@ use Rattle.trivium.specs.{Calls.skipping, Calls.ahead, Record.state, Record.pac
 use Rattle.trivium.specs.{declared.Registers.Registers}
 use Rattle.trivium.proofs.Steps.{Held, held-state, held-steps, skip-add}
 use Rattle.trivium.proofs.Theorems.{goes-on}
-use Rattle.record_bytes.specs.Ciphers.{ciphered, KeptInTwo}
+use Rattle.record_bytes.specs.{Ciphers.ciphered, Ciphers.KeptInTwo, SixWords.sixWidths, SixWords.sixNumbers}
 use Rattle.record_bytes.proofs.Ciphers.{kept-leaves, kept-in-two}
 use Rattle.cipher_bytes.specs.{Calls.cipherMake, Calls.cipherEncipher}
-use Rattle.cipher_bytes.specs.Record.{cipherWidths, cipherSize, cipherNumbers, cipherBytes, cipherIn}
+use Rattle.cipher_bytes.specs.Record.{cipherSize, sixOf, cipherBytes, cipherIn}
 use Rattle.cipher_bytes.proofs.Record.{length-cipher, cipher-back}
 
 pub cipher-make-leaves : (buffer key value : List ℕ)
@@ -29,7 +29,7 @@ unfolding cipherEncipher
 cipher-encipher-leaves = kept-leaves cipherSize cipherIn cipherBytes ahead skipping
 
 -- the registers that a call leaves fit their words, so they are read back
-packed-fits : (s : State) → Held s → Fits cipherWidths (cipherNumbers (packed s))
+packed-fits : (s : State) → Held s → Fits sixWidths (sixNumbers (sixOf (packed s)))
 unfolding packed
 packed-fits s h = (
   lt-of-lt-of-le (shr-lt 29 64 (h .a)) (omega arith),

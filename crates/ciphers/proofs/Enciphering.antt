@@ -1,15 +1,16 @@
--- What enciphering comes to, whatever the cipher. With room a call is what its definition says of it, and the rest are the
--- laws of bytes under any keystream, by two laws that the cipher owes: a record that is moved on twice is moved on by both,
--- and its keystream goes on from there.
+-- What enciphering comes to, whatever the cipher. With room a call is what its definition says of it, and the rest are
+-- the laws of bytes under any keystream, by two laws that the cipher owes: a record that is moved on twice is moved on
+-- by both, and its keystream goes on from there.
 use mathlib.Core.{Path._≡_, Path.refl, Path.sym, Path.ap, Path._∙_, List.List, List._++_}
 use Prim.Native.Nat.{ℕ, _+_, _≤_}
 use native.Mathlib.Omega.{arith}
 use lib.ListN.{length, take, drop, length-append, length-drop}
-use Rattle.octets.specs.{Buffers.placed, Stream.Keystream, Stream.from, Stream.enciphered}
-use Rattle.octets.proofs.Streams.{length-enciphered, enciphered-twice, enciphered-front, enciphered-cut}
-use Rattle.refusals.specs.{Numbers.accepted, Outcome.Outcome, Outcome.outcome, Rules.Leaves}
-use Rattle.refusals.proofs.Settled.{done-if, settled-leaves, answer-done}
-use Rattle.ciphers.specs.Calls.{enciphersBy, TakenInTwo, GivesBack}
+use Rattle.octets.specs.{Buffers.slice, Buffers.placed, Buffers.put, Stream.Keystream, Stream.from, Stream.enciphered}
+use Rattle.octets.proofs.Buffers.{put-placed, take-placed}
+use Rattle.octets.proofs.Streams.{length-enciphered, enciphered-twice, enciphered-front, enciphered-cut, in-place}
+use Rattle.refusals.specs.{Numbers.accepted, Outcome.Outcome, Outcome.outcome, Rules.Leaves, Rules.settled}
+use Rattle.refusals.proofs.Settled.{done-if, settled-leaves, settled-map, answer-done}
+use Rattle.ciphers.specs.Calls.{encipherFaults, enciphersBy, TakenInTwo, GivesBack}
 
 module _ {Record Answer : Type 0} (answer : ℕ → Record → Answer) (stream : Record → Keystream)
     (moved : Record → ℕ → Record) where
@@ -17,7 +18,8 @@ module _ {Record Answer : Type 0} (answer : ℕ → Record → Answer) (stream :
   encipher = enciphersBy answer stream moved
 
   abbrev done : Record → List ℕ → List ℕ → Outcome Answer ℕ
-  done r input output = outcome (answer accepted (moved r (length input))) (placed output 0 (enciphered (stream r) input))
+  done r input output =
+      outcome (answer accepted (moved r (length input))) (placed output 0 (enciphered (stream r) input))
 
   -- with room the call isn't refused
   pub enciphers : (r : Record) (input output : List ℕ) → length input ≤ length output
@@ -44,6 +46,52 @@ module _ {Record Answer : Type 0} (answer : ℕ → Record → Answer) (stream :
         (encipher r input output)
     enciphering-leaves =
         settled-leaves _ _ _ (λ o. number (o .answer)) (so accepted (moved r (length input))) (λ n. so n r)
+
+  -- Two records are the same to a call if they have the same keystream ahead and are moved on to the same record.
+  module _ (number : Answer → ℕ) (so : (n : ℕ) (r : Record) → number (answer n r) ≡ n) (r q : Record)
+      (input output : List ℕ) where
+    numbered : (r : Record)
+        → number (encipher r input output .answer) ≡ settled (encipherFaults input output) accepted (λ n. n)
+    numbered r =
+        settled-map (λ (o : Outcome Answer ℕ). number (o .answer)) (encipherFaults input output) _ _
+        ∙ (λ i. settled (encipherFaults input output) (so accepted (moved r (length input)) i) (λ n. so n r i))
+
+    -- whether it is refused is the same for all
+    pub same-number : number (encipher r input output .answer) ≡ number (encipher q input output .answer)
+    same-number = numbered r ∙ sym (numbered q)
+
+    module _ (ahead : stream r ≡ stream q) where
+      pub same-buffer : encipher r input output .buffer ≡ encipher q input output .buffer
+      same-buffer =
+          settled-map (λ (o : Outcome Answer ℕ). o .buffer) (encipherFaults input output) _ _
+          ∙ ap (λ (k : Keystream). settled (encipherFaults input output) (placed output 0 (enciphered k input))
+          (λ n. output)) ahead
+          ∙ sym (settled-map (λ (o : Outcome Answer ℕ). o .buffer) (encipherFaults input output) _ _)
+
+      pub same-enciphered : moved r (length input) ≡ moved q (length input)
+          → number (encipher r input output .answer) ≡ accepted → encipher r input output ≡ encipher q input output
+      same-enciphered on z =
+          unrefused number so r input output z
+          ∙ (λ i. outcome (answer accepted (on i)) (placed output 0 (enciphered (ahead i) input)))
+          ∙ sym (unrefused number so q input output (sym same-number ∙ z))
+
+  -- What was copied to an output's front, enciphered there; `n` is what the code says of its length.
+  pub in-front : (r : Record) (input d left : List ℕ) (n : ℕ) {part : List ℕ} {next : Record} → left ≡ put d 0 input
+      → length input ≡ n → n ≤ length d
+      → outcome next part ≡ outcome (moved r (length (slice left 0 n))) (enciphered (stream r) (slice left 0 n))
+      → outcome (answer accepted next) (part ++ drop n left) ≡ encipher r input d
+  in-front r input d left n copied long room covered =
+      let k : Keystream = stream r in
+      let all : slice left 0 n ≡ input =
+      ap (take n) (copied ∙ put-placed d 0 input (omega arith)) ∙ ap (λ (m : ℕ). take m (placed d 0 input)) (sym long)
+      ∙ take-placed d input (omega arith) in
+      let so = covered ∙ ap (λ (l : List ℕ). outcome (moved r (length l)) (enciphered k l)) all in
+      ap (λ (o : Outcome Record ℕ). outcome (answer accepted (o .answer)) (o .buffer ++ drop n left)) so
+      ∙ ap (outcome (answer accepted (moved r (length input))))
+      (ap (λ (l : List ℕ). enciphered k l ++ drop n left) (sym all)
+      ∙ in-place k d input left 0 n copied long (omega arith)
+      ∙ put-placed d 0 (enciphered k input) (omega (arith, length-enciphered k input)))
+      ∙ sym (enciphers r input d (omega arith))
 
   pub in-two : (next : Answer → Record) → ((n : ℕ) (r : Record) → next (answer n r) ≡ r)
       → ((r : Record) (n m : ℕ) → moved (moved r n) m ≡ moved r (n + m))

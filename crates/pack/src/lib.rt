@@ -1,4 +1,5 @@
 ghost use mathlib.Core.Path.{_≡_};
+ghost use Rattle.pack.specs.Calls.{refusedOpening};
 ghost use Rattle.pack.specs.Ciphers.{cipherOf, countOf, picked};
 ghost use Rattle.pack.specs.Layout.{nameGood, tagLength};
 
@@ -114,4 +115,21 @@ pub fn name_good(name: &[u8]) -> bool
         i += 1;
     }
     true
+}
+
+// The answer to a refused file: its number, and how many bytes it lacks.
+pub fn refused_opening(lacks: usize, number: u8) -> Opened
+    ensures { λ r. ⌜ r ≡ refusedOpening lacks number ⌝ }
+{
+    Opened {
+        refusal: number,
+        lacks,
+        samples: 0,
+        key: 0,
+        loops: 0,
+        name_length: 0,
+        name_at: 0,
+        value_at: 0,
+        loops_at: 0,
+    }
 }

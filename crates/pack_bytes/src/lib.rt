@@ -17,7 +17,7 @@ pub fn open(file: &[u8], keys: &[u8], samples: &mut [i16], answer: &mut [usize])
     let second = rings::enocoro_ring(&own);
     let third = rings::triad_ring(&own);
     if answer.len() < survey_bytes::NUMBERS {
-        let told = opener::inspect(file, first, second, third);
+        let told = inspector::inspect(file, first, second, third);
         let fault = told.refusal;
         if fault != refusals::ACCEPTED {
             return fault;

@@ -118,7 +118,7 @@ fn inspected(input: &[u8]) -> Opened
     let first = rings::trivium_ring(&keys);
     let second = rings::enocoro_ring(&keys);
     let third = rings::triad_ring(&keys);
-    opener::inspect(&input[rings::KEYS_BYTES..], first, second, third)
+    inspector::inspect(&input[rings::KEYS_BYTES..], first, second, third)
 }
 
 // Writes the text where there is room for it, whatever it says.

@@ -2,3 +2,4 @@ pub mod Ciphers
 pub mod Fields
 pub mod Fronts
 pub mod Making
+pub mod Sixes

@@ -1,4 +1,5 @@
 pub mod Ciphers
 pub mod Front
 pub mod Making
+pub mod SixWords
 pub mod Written

@@ -1,3 +1,6 @@
+ghost use mathlib.Core.Path.{_≡_};
+ghost use Rattle.refusals.specs.Rules.{verdictOf};
+
 // The numbers for no, for the code: what each says stands in specs/Numbers.antt.
 pub const ACCEPTED: u8 = 0;
 
@@ -61,4 +64,10 @@ pub const BAD_TAG_SECTION: u8 = 45;
 pub struct Verdict {
     pub number: u8,
     pub lacks: usize,
+}
+
+pub fn verdict_of(number: u8, lacks: usize) -> Verdict
+    ensures { λ r. ⌜ r ≡ verdictOf number lacks ⌝ }
+{
+    Verdict { number, lacks }
 }

@@ -1,4 +1,4 @@
--- What a caller of `opener::survey` knows: a refused file's number comes before any room is looked at, and with none
+-- What a caller of `surveyor::survey` knows: a refused file's number comes before any room is looked at, and with none
 -- the room that is needed decides.
 use mathlib.Core.{Bool.Bool, Bool.true, Bool.false, Bool.cond, List.List, List._++_, Logic._≢_, Path._≡_, Path.refl}
 use mathlib.Core.Path.{sym, ap, _∙_}

@@ -60,7 +60,7 @@ fn fault(told: Opened, needed: usize, room: usize) -> u8
 pub fn survey(file: &[u8], answer: &mut [usize]) -> u8
     ensures { λ r. ⌜ outcome r (now (answer .exit)) ≡ packSurvey (now (file .entry)) (now (answer .entry)) ⌝ }
 {
-    let told = opener::survey(file);
+    let told = surveyor::survey(file);
     let no = fault(told, NUMBERS, answer.len());
     if no != refusals::ACCEPTED {
         return no;
@@ -73,7 +73,7 @@ pub fn survey(file: &[u8], answer: &mut [usize]) -> u8
 pub fn lacks(file: &[u8]) -> usize
     ensures { λ r. ⌜ r ≡ packLacks (now (file .entry)) ⌝ }
 {
-    let told = opener::survey(file);
+    let told = surveyor::survey(file);
     told.lacks
 }
 
@@ -96,7 +96,7 @@ pub fn loops(file: &[u8], loops: &mut [u32], written: &mut usize) -> u8
     ensures { λ r. ⌜ wrote (now (loops .exit)) (now (written .exit)) r
         ≡ packLoops (now (file .entry)) (now (loops .entry)) (now (written .entry)) ⌝ }
 {
-    let told = opener::survey(file);
+    let told = surveyor::survey(file);
     let count = told.loops;
     let at = told.loops_at;
     let no = fault(told, count, loops.len() / 2);

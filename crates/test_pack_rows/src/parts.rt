@@ -153,6 +153,34 @@ fn first_numbers(run: &[u32], n: usize) -> &[u32] {
     run
 }
 
+// Seals a sound under the keys that all tests have, into the file.
+fn sealed(
+    kind: Kind,
+    name: &[u8],
+    key: u8,
+    value: &[u8],
+    sound: &[i16],
+    loops: &[u32],
+    file: &mut [u8],
+) -> Sealed {
+    let keys = own_keys();
+    let ring = rings::trivium_ring(&keys);
+    let second = rings::enocoro_ring(&keys);
+    let third = rings::triad_ring(&keys);
+    sealer::seal(
+        kind,
+        name,
+        ring,
+        second,
+        third,
+        key,
+        value,
+        sound,
+        loops,
+        file,
+    )
+}
+
 // Seals samples of two bytes and loops of four for each number, into the first elements of the file as far as the room
 // goes.
 pub fn seal(
@@ -167,22 +195,12 @@ pub fn seal(
 ) -> Sealed {
     let mut sound = large_sound();
     let mut run = large_run();
-    let keys = own_keys();
     let lent = least(room, file.len());
     twos(body, &mut sound);
     fours(loops, &mut run);
-    sealer::seal(
-        kind,
-        name,
-        rings::trivium_ring(&keys),
-        rings::enocoro_ring(&keys),
-        rings::triad_ring(&keys),
-        key,
-        value,
-        first_samples(&sound, body.len() / 2),
-        first_numbers(&run, loops.len() / 4),
-        &mut file[0..lent],
-    )
+    let samples = first_samples(&sound, body.len() / 2);
+    let numbers = first_numbers(&run, loops.len() / 4);
+    sealed(kind, name, key, value, samples, numbers, &mut file[0..lent])
 }
 
 // The same with NAME KEY VALUE LOOPS ROOM from the row's last words, which begin at the fourth.

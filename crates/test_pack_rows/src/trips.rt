@@ -239,7 +239,7 @@ fn lowest_there(row: &[u8], body: &[u8], place: usize) {
     let mut other = file_room();
     let kind = parts::kind_at(row, 9);
     let sealed = parts::seal_row(row, kind, body, &mut file);
-    let first = opener::survey(octets::slice(&file, 0, sealed.length));
+    let first = surveyor::survey(octets::slice(&file, 0, sealed.length));
     let body_at = parts::body_at(kind, first.value_at);
     let at = last_byte(body_at, body.len() / 2, place);
     parts::turn_over(&file, at, 1, &mut other);

@@ -133,7 +133,7 @@ fn show_output(output: &[u8; 48], room: usize) {
 fn encipher(from: Registers, input: &[u8], output_bytes: usize) -> Registers {
     let mut output = untouched();
     let room = output_bytes % 49;
-    let enciphered = from.encipher(input, &mut output[0..room]);
+    let enciphered = triad_runs::encipher(from, input, &mut output[0..room]);
     test_kit::print_number(b" ", enciphered.refusal as u64);
     show_output(&output, room);
     enciphered.next
@@ -144,7 +144,7 @@ fn cover_front(from: Registers, run: &mut [u8], n: usize) -> Registers {
     if run.len() < n {
         return from;
     }
-    from.cover(&mut run[0..n])
+    triad_runs::cover(from, &mut run[0..n])
 }
 
 fn here(from: Registers, input: &[u8]) -> Registers {
@@ -156,17 +156,17 @@ fn here(from: Registers, input: &[u8]) -> Registers {
 }
 
 fn absorb_in_two(from: Registers, bytes: &[u8], n: usize) -> Registers {
-    let half = from.absorb(octets::slice(bytes, 0, n));
-    half.absorb(octets::slice(bytes, n, bytes.len()))
+    let half = triad_runs::absorb(from, octets::slice(bytes, 0, n));
+    triad_runs::absorb(half, octets::slice(bytes, n, bytes.len()))
 }
 
 // The second call's cipher stands behind the first one's bytes.
 fn absorb_under_in_two(from: Registers, cipher: Registers, bytes: &[u8], n: usize) -> Registers {
     let mut room = io::buffer();
     let first = octets::slice(bytes, 0, n);
-    let half = from.absorb_under(cipher, first);
-    let moved = cipher.encipher(first, &mut room);
-    half.absorb_under(moved.next, octets::slice(bytes, n, bytes.len()))
+    let half = triad_runs::absorb_under(from, cipher, first);
+    let moved = triad_runs::encipher(cipher, first, &mut room);
+    triad_runs::absorb_under(half, moved.next, octets::slice(bytes, n, bytes.len()))
 }
 
 // How many bytes associated data are, as the paper pads them: seven bytes, the least significant first.
@@ -180,7 +180,7 @@ fn absorb_count(from: Registers, count: usize) -> Registers {
         0,
         0,
     ];
-    from.absorb(&padding)
+    triad_runs::absorb(from, &padding)
 }
 
 fn show_tags(
@@ -191,9 +191,9 @@ fn show_tags(
     covered: &[u8],
     n: usize,
 ) {
-    let one = absorb_count(begun.absorb(data), data.len());
+    let one = absorb_count(triad_runs::absorb(begun, data), data.len());
     let two = absorb_count(absorb_in_two(begun, data, n), data.len());
-    show_word(one.absorb(message).tag());
+    show_word(triad_runs::absorb(one, message).tag());
     show_word(absorb_in_two(two, message, n).tag());
     show_word(absorb_under_in_two(one, cipher, covered, n).tag());
 }
@@ -203,7 +203,7 @@ fn vector(key: &[u8], nonce: &[u8], data: &[u8], message: &[u8], n: usize) {
     let made = Registers::new(key, nonce);
     let begun = Registers::new_tag(key, nonce);
     let cipher = made.registers;
-    cipher.encipher(message, &mut room);
+    triad_runs::encipher(cipher, message, &mut room);
     let covered = octets::slice(&room, 0, message.len());
     io::write_all(1, b" ");
     test_kit::print_bytes(covered);
@@ -244,7 +244,7 @@ fn run(kept: Registers, letter: u8, bytes: &[u8], n: usize, count: usize) -> Reg
         b'r' => registers(bytes),
         b'm' => show_made(Registers::new(first, rest)),
         b'b' => show_made(Registers::new_tag(first, rest)),
-        b'a' => kept.absorb(bytes),
+        b'a' => triad_runs::absorb(kept, bytes),
         _ => {
             try_case(kept, letter, bytes, n, count);
             return kept;

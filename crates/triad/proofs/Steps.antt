@@ -1,7 +1,7 @@
 -- Updates of the record: what is packed stands for the state that it was packed from, so laws of states are its laws.
 use mathlib.Core.{Path._≡_, Path.refl, Path.sym, Path.ap, Path.ap₂, Path.subst, Path._∙_, List.List, List.[], List._∷_}
 use mathlib.Core.List.{_++_}
-use Prim.Native.Nat.{ℕ, zero, suc, _+_, _-_, _*_, _/_, _%_, _^_, _<_, _≤_}
+use Prim.Native.Nat.{ℕ, zero, suc, _+_, _-_, _*_, _/_, _%_, _^_, _<_, _≤_, min}
 use native.Mathlib.{Nat.zero-add, Nat.suc-add, Nat.mod-lt, Nat.mod-eq-of-lt, Omega.arith}
 use native.Mathlib.Nat.{lt-of-lt-of-le}
 use lib.Pow.{pow-pos, pow-mono, shr-lt, split, high, low, field, mod-mod-pow}
@@ -11,8 +11,9 @@ use Rattle.shift_registers.specs.{Registers.State, Steps.stepsBy, Steps.bitsBy,
 use Rattle.shift_registers.specs.declared.Newest.{Newest}
 use Rattle.shift_registers.proofs.Steps.{held-cut}
 use Rattle.triad_taps.specs.Words.{ofWords, newest}
-use Rattle.triad_taps.proofs.Strides.{held-words, outputs-below, part-strode}
-use Rattle.triad.specs.{Calls.skipping, Record.state, Record.packed, declared.Registers.Registers}
+use Rattle.triad_taps.proofs.Strides.{held-words, outputs-below, strode, part-strode}
+use Rattle.triad.specs.Calls.{striding, running, shortStriding, skipping}
+use Rattle.triad.specs.{Record.state, Record.packed, declared.Registers.Registers, declared.Strode.Strode}
 use Rattle.triad.specs.State.{next, outputBit, outputs, permuted, updates, zeros}
 use Rattle.triad.specs.Tag.{absorbed}
 pub use Rattle.triad_taps.proofs.Strides.{Held, held-updates, updates-append}
@@ -36,16 +37,6 @@ bytes-on n m s =
 -- a message of nothing
 pub silent : (n : ℕ) (s : State) → updates (bitsUp n 0) s ≡ updates (zeros n) s
 silent n s = ap (λ (l : List ℕ). updates l s) (up-zeros n)
-
--- n bytes from a message of nothing, behind those that came before
-pub gone-on : (s now : State) (at m : ℕ) {next : State} {n message : ℕ} → now ≡ updates (zeros (8 * at)) s
-    → next ≡ updates (bitsUp n message) now → n ≡ 8 * m → message ≡ 0 → next ≡ updates (zeros (8 * (at + m))) s
-gone-on s now at m there moved few none =
-    moved
-    ∙ ap₂ (λ (k v : ℕ). updates (bitsUp k v) now) few none
-    ∙ silent (8 * m) now
-    ∙ ap (updates (zeros (8 * m))) there
-    ∙ sym (bytes-on at m s)
 
 -- ---- states whose registers fit their widths
 
@@ -140,6 +131,30 @@ stepped a1 a0 b1 b0 c1 c0 message ha1 ha0 hb1 hb0 hc1 hc0 told =
     let b = newer-told 24 (shifted b0 b1 63) _ _ _ (λ i. one i .b) (λ i. told i .b) in
     let c = newer-told 24 (shifted c0 c1 63) _ _ _ (λ i. one i .c) (λ i. told i .c) in
     λ i. record { a = a i; b = b i; c = c i }
+
+-- ---- 64 updates in a loop, and fewer
+
+module _ (r : Registers) (message : ℕ) {s : Strode} where
+  pub ran-word : s ≡ running r message → s .word ≡ numberUp (outputs (bitsUp 64 message) (state r))
+  unfolding running striding
+  ran-word e = λ i. e i .word
+
+  -- what a loop leaves in an older word behind its register counts for nothing
+  pub ran-state : s ≡ running r message → state (s .next) ≡ updates (bitsUp 64 message) (state r)
+  unfolding running striding state packed newest
+  ran-state e =
+      ap (λ (t : Strode). state (t .next)) e ∙ strode (r .a1) (r .a0) (r .b1) (r .b0) (r .c1) (r .c0) message refl
+
+  module _ (n : ℕ) (e : s ≡ shortStriding r message n) where
+    pub short-word : s .word ≡ numberUp (outputs (bitsUp 64 message) (state r))
+    unfolding shortStriding striding
+    short-word = λ i. e i .word
+
+    pub short-next : n ≤ 64 → s .next ≡ packed (updates (bitsUp n message) (state r))
+    unfolding shortStriding
+    short-next few =
+        let all : min n 64 ≡ n = omega arith in
+        (λ i. e i .next) ∙ ap (λ (k : ℕ). packed (updates (bitsUp k message) (state r))) all
 
 -- ---- the permutation
 

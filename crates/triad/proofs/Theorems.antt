@@ -1,27 +1,31 @@
 -- What the public calls' definitions come to. Each theorem rests on the laws of updates, and those on enciphering are
 -- what holds of any cipher.
 use mathlib.Core.{Path._≡_, Path.refl, Path.sym, Path.ap, Path._∙_, List.List, List.[], List._∷_, List._++_}
-use Prim.Native.Nat.{ℕ, suc, _*_, _/_, _%_, _<_, _≤_}
+use mathlib.Core.List.{append-nil}
+use Prim.Native.Nat.{ℕ, suc, _*_, _/_, _%_, _<_, _≤_, min}
 use native.Mathlib.{Nat.mod-eq-of-lt, Omega.arith}
 use lib.{ListN.length, ListN.take, Pow.shr-lt}
-use Rattle.octets.specs.{Buffers.placed, Digits.number, LowFirst.bitsUp, LowFirst.numberUp, Stream.Keystream}
-use Rattle.octets.specs.Stream.{from, enciphered}
+use Rattle.octets.specs.{Buffers.placed, Digits.number, LowFirst.bitsUp, LowFirst.bitsUpOf, LowFirst.numberUp}
+use Rattle.octets.specs.Stream.{Keystream, from, enciphered}
 use Rattle.octets.proofs.LowFirst.{below-up, turned-few, up-zeros}
 use Rattle.octets.proofs.{Numbers.Below, Streams.enciphered-append}
-use Rattle.refusals.specs.{Numbers.accepted, Outcome.Outcome, Outcome.outcome, Rules.Leaves, Rules.settled}
-use Rattle.refusals.proofs.Settled.{done-if, settled-leaves, settled-map, by-settled}
-use Rattle.ciphers.specs.Calls.{makeFaults, encipherFaults, TakenInTwo, GivesBack}
+use Rattle.refusals.specs.{Numbers.accepted, Outcome.outcome, Rules.Leaves}
+use Rattle.refusals.proofs.Settled.{done-if, settled-leaves, by-settled}
+use Rattle.ciphers.specs.Calls.{makeFaults, TakenInTwo, GivesBack}
 use Rattle.ciphers.proofs.Enciphering as any
 use Rattle.shift_registers.specs.{Registers.State, Steps.stepsBy, Steps.bitsBy}
 use Rattle.triad.specs.{Engines.plainly, Engines.plainBits, Record.state, Record.packed, Record.Clean}
-use Rattle.triad.specs.{declared.Enciphered.Enciphered, declared.Made.Made, declared.Registers.Registers}
+use Rattle.triad.specs.{declared.Made.Made, declared.Registers.Registers}
 use Rattle.triad.specs.Keystream.{keystream, started}
+use Rattle.triad.specs.Pieces.{together, absorbingAll, absorbingAllUnder}
 use Rattle.triad.specs.State.{loaded, next, outputBit, outputs, permuted, updates, zeros}
 use Rattle.triad.specs.Tag.{absorbed, padded, tagOf, tagStarted, triad}
-use Rattle.triad.specs.Calls.{refusedMaking, makingBy, makingCipher, makingTag, stepping, striding, skipping}
+use Rattle.triad.specs.Calls.{refusedMaking, makingBy, makingCipher, makingTag, stepping, striding, running}
+use Rattle.triad.specs.Calls.{shortStriding, skipping}
 use Rattle.triad.specs.Calls.{answered, ahead, enciphering, covering, absorbing, absorbingUnder, tagging}
 use Rattle.triad.proofs.{Bytes.gone, Steps.Held, Steps.held-state, Steps.held-first, Steps.held-updates}
-use Rattle.triad.proofs.Steps.{state-packed, state-updates, state-skip, skip-add, absorbed-append}
+use Rattle.triad.proofs.Steps.{state-packed, state-updates, state-skip, skip-add, ran-word, ran-state}
+use Rattle.triad.proofs.Steps.{absorbed-append}
 
 -- ---- a refused call leaves everything as given
 
@@ -119,6 +123,20 @@ pub engines-agree-idle : (r : Registers)
 engines-agree-idle r =
     engines-agree r 0
     ∙ (λ i. record { word = numberUp (plainBits (up-zeros 64 i) r); next = plainly (up-zeros 64 i) r })
+
+-- Updates in a loop and plain ones give the same word, and what they leave stands for the same state.
+pub running-agrees : (r : Registers) (message : ℕ)
+    → (running r message .word ≡ striding r message .word)
+    × (state (running r message .next) ≡ state (striding r message .next))
+unfolding running striding
+running-agrees r message = (refl, ran-state r message refl ∙ sym (state-updates (bitsUp 64 message) r))
+
+-- a short stride of all 64 updates is a stride
+pub short-whole : (r : Registers) (message n : ℕ) → 64 ≤ n → shortStriding r message n ≡ striding r message
+unfolding shortStriding striding
+short-whole r message n many =
+    let all : min n 64 ≡ 64 = omega arith in
+    λ i. record { word = striding r message .word; next = packed (updates (bitsUp (all i) message) (state r)) }
 
 -- ---- enciphering
 
@@ -232,7 +250,7 @@ clean s h =
 clean-updates : (bits : List ℕ) (r : Registers) → Clean (packed (updates bits (state r)))
 clean-updates bits r = clean (updates bits (state r)) (held-updates bits (state r) (held-state r))
 
--- they come back zero from every call that isn't refused, whatever they were
+-- they come back zero from every call that isn't refused but `run`, whatever they were
 clean-by : (bit : ℕ) (key nonce : List ℕ) → Clean (makingBy bit key nonce .registers)
 clean-by bit key nonce =
     by-settled (makeFaults triad key nonce) _ _ (λ (m : Made). Clean (m .registers))
@@ -255,6 +273,13 @@ pub clean-strode : (r : Registers) (message : ℕ) → Clean (striding r message
 unfolding striding
 clean-strode r message = clean-updates (bitsUp 64 message) r
 
+pub clean-short : (r : Registers) (message n : ℕ) → Clean (shortStriding r message n .next)
+unfolding shortStriding
+clean-short r message n = clean-updates (bitsUp (min n 64) message) r
+
+pub clean-cleared : (r : Registers) → Clean (packed (state r))
+clean-cleared r = clean (state r) (held-state r)
+
 pub clean-skipped : (r : Registers) (n : ℕ) → Clean (skipping r n)
 unfolding skipping
 clean-skipped r n = clean-updates (zeros (8 * n)) r
@@ -276,7 +301,7 @@ unfolding absorbingUnder
 clean-absorbed-under r cipher bytes = clean-absorbed r (enciphered (ahead cipher) bytes)
 
 -- They are ignored: records that stand for the same state are the same to every call. One that is refused hands back
--- the record that it was given.
+-- the record that it was given, and `run` leaves the same state.
 module _ (r q : Registers) (same : state r ≡ state q) where
   pub same-stepped : (message : ℕ) → stepping r message ≡ stepping q message
   unfolding stepping
@@ -290,6 +315,20 @@ module _ (r q : Registers) (same : state r ≡ state q) where
         word = numberUp (outputs (bitsUp 64 message) (same i));
         next = packed (updates (bitsUp 64 message) (same i));
       }
+
+  pub same-ran : (message : ℕ)
+      → (running r message .word ≡ running q message .word)
+      × (state (running r message .next) ≡ state (running q message .next))
+  same-ran message =
+      let bits : List ℕ = bitsUp 64 message in (
+        ran-word r message refl ∙ ap (λ (s : State). numberUp (outputs bits s)) same ∙ sym (ran-word q message refl),
+        ran-state r message refl ∙ ap (updates bits) same ∙ sym (ran-state q message refl),
+      )
+
+  pub same-short : (message n : ℕ) → shortStriding r message n ≡ shortStriding q message n
+  unfolding shortStriding
+  same-short message n =
+      λ i. record { word = same-strode message i .word; next = packed (updates (bitsUp (min n 64) message) (same i)) }
 
   pub same-skipped : (n : ℕ) → skipping r n ≡ skipping q n
   unfolding skipping
@@ -319,23 +358,73 @@ module _ (r q : Registers) (same : state r ≡ state q) where
   module _ (input output : List ℕ) where
     pub same-number : enciphering r input output .answer .refusal ≡ enciphering q input output .answer .refusal
     unfolding enciphering
-    same-number =
-        settled-map (λ (o : Outcome Enciphered ℕ). o .answer .refusal) (encipherFaults input output) _ _
-        ∙ sym (settled-map (λ (o : Outcome Enciphered ℕ). o .answer .refusal) (encipherFaults input output) _ _)
+    same-number = any.same-number answered ahead skipping (λ a. a .refusal) (λ n r. refl) r q input output
 
     pub same-buffer : enciphering r input output .buffer ≡ enciphering q input output .buffer
     unfolding enciphering
     same-buffer =
-        settled-map (λ (o : Outcome Enciphered ℕ). o .buffer) (encipherFaults input output) _ _
-        ∙ ap (λ (s : State). settled (encipherFaults input output)
-        (placed output 0 (enciphered (keystream s) input)) (λ n. output)) same
-        ∙ sym (settled-map (λ (o : Outcome Enciphered ℕ). o .buffer) (encipherFaults input output) _ _)
+        any.same-buffer answered ahead skipping (λ a. a .refusal) (λ n r. refl) r q input output (ap keystream same)
 
     pub same-enciphered : enciphering r input output .answer .refusal ≡ accepted
         → enciphering r input output ≡ enciphering q input output
-    same-enciphered z =
-        unrefused r input output z
-        ∙ (λ i.
-        outcome {A = Enciphered} (record { refusal = accepted; next = same-skipped (length input) i })
-        (placed output 0 (enciphered (keystream (same i)) input)))
-        ∙ sym (unrefused q input output (sym same-number ∙ z))
+    unfolding enciphering
+    same-enciphered =
+        any.same-enciphered answered ahead skipping (λ a. a .refusal) (λ n r. refl) r q input output (ap keystream same)
+        (same-skipped (length input))
+
+-- ---- in any number of pieces
+
+pieces-absorbed : (r : Registers) (piece : List ℕ) (more : List (List ℕ))
+    → absorbingAll r (piece ∷ more) ≡ absorbing r (together (piece ∷ more))
+unfolding absorbingAll together
+pieces-absorbed r piece [] = ap (absorbing r) (sym (append-nil piece))
+pieces-absorbed r piece (next ∷ more) =
+    pieces-absorbed (absorbing r piece) next more ∙ in-pieces r piece (together (next ∷ more))
+
+pieces-absorbed-under : (r cipher : Registers) (piece : List ℕ) (more : List (List ℕ))
+    → absorbingAllUnder r cipher (piece ∷ more) ≡ absorbingUnder r cipher (together (piece ∷ more))
+unfolding absorbingAllUnder together
+pieces-absorbed-under r cipher piece [] = ap (absorbingUnder r cipher) (sym (append-nil piece))
+pieces-absorbed-under r cipher piece (next ∷ more) =
+    pieces-absorbed-under (absorbingUnder r cipher piece) (skipping cipher (length piece)) next more
+    ∙ in-pieces-under r cipher piece (together (next ∷ more))
+
+-- Pieces taken in stand for the same state as all of them taken in as one run. If there is none, nothing clears a spare
+-- bit, so the records may differ.
+pub in-all-pieces : (r : Registers) (pieces : List (List ℕ))
+    → state (absorbingAll r pieces) ≡ state (absorbing r (together pieces))
+unfolding absorbingAll together absorbed bitsUpOf stepsBy
+in-all-pieces r [] = sym (state-absorbed r [])
+in-all-pieces r (piece ∷ more) = ap state (pieces-absorbed r piece more)
+
+pub in-all-pieces-under : (r cipher : Registers) (pieces : List (List ℕ))
+    → state (absorbingAllUnder r cipher pieces) ≡ state (absorbingUnder r cipher (together pieces))
+unfolding absorbingAllUnder absorbingUnder together absorbed enciphered bitsUpOf stepsBy
+in-all-pieces-under r cipher [] = sym (state-absorbed r [])
+in-all-pieces-under r cipher (piece ∷ more) = ap state (pieces-absorbed-under r cipher piece more)
+
+module _ (key nonce associated : List ℕ) (keys : length key ≡ 16) (values : length nonce ≡ 12) where
+  abbrev begun : Registers
+  begun = makingTag key nonce .registers
+
+  -- The tag is that of the whole, wherever the padded associated data and the message are cut.
+  pub tag-in-pieces : (message : List ℕ) (pieces : List (List ℕ)) → together pieces ≡ padded associated ++ message
+      → tagging (absorbingAll begun pieces) ≡ triad .tag key nonce associated message
+  tag-in-pieces message pieces all =
+      same-tag (absorbingAll begun pieces) (absorbing begun (together pieces)) (in-all-pieces begun pieces)
+      ∙ tag-whole key nonce associated message keys values (ap (absorbing begun) all)
+
+  -- And if the message is lent enciphered, in pieces of its own.
+  pub tag-received-in-pieces : (front sent : List (List ℕ)) → together front ≡ padded associated
+      → tagging (absorbingAllUnder (absorbingAll begun front) (makingCipher key nonce .registers) sent)
+      ≡ triad .tag key nonce associated (enciphered (triad .stream key nonce) (together sent))
+  tag-received-in-pieces front sent all =
+      let cipher : Registers = makingCipher key nonce .registers in
+      let apart : Registers = absorbingAll begun front in
+      let whole : Registers = absorbing begun (padded associated) in
+      let taken : state apart ≡ state whole =
+      in-all-pieces begun front ∙ ap (λ (l : List ℕ). state (absorbing begun l)) all in
+      same-tag (absorbingAllUnder apart cipher sent) (absorbingUnder whole cipher (together sent))
+      (in-all-pieces-under apart cipher sent
+      ∙ ap state (same-absorbed-under apart whole taken cipher (together sent)))
+      ∙ tag-received key nonce associated (together sent) keys values

@@ -1,5 +1,5 @@
 -- What each public call owes: its answer, and what a lent buffer holds afterwards, for every input.
-use Prim.Native.Nat.{ℕ, _*_, _%_}
+use Prim.Native.Nat.{ℕ, _*_, _%_, min}
 use mathlib.Core.List.{List}
 use lib.ListN.{length}
 use Rattle.octets.specs.{Digits.number, LowFirst.bitsUp, LowFirst.numberUp, Stream.Keystream, Stream.enciphered}
@@ -39,6 +39,28 @@ striding r message =
       word = numberUp (outputs (bitsUp 64 message) (state r));
       next = packed (updates (bitsUp 64 message) (state r));
     }
+
+-- the same in a loop: a register's older word is, whole, what was its newer
+unfoldable pub running : Registers → ℕ → Strode
+running r message =
+    let strode : Strode = striding r message in
+    record {
+      word = strode .word;
+      next =
+          record {
+            a1 = r .a0;
+            a0 = strode .next .a0;
+            b1 = r .b0;
+            b0 = strode .next .b0;
+            c1 = r .c0;
+            c0 = strode .next .c0;
+          };
+    }
+
+-- the same word, and only n of the 64 updates
+unfoldable pub shortStriding : Registers → ℕ → ℕ → Strode
+shortStriding r message n =
+    record { word = striding r message .word; next = packed (updates (bitsUp (min n 64) message) (state r)) }
 
 -- whole bytes passed over
 unfoldable pub skipping : Registers → ℕ → Registers

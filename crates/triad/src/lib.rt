@@ -1,16 +1,12 @@
-ghost use mathlib.Core.List.{[], _∷_, reverse};
+ghost use mathlib.Core.List.{[], _∷_};
 ghost use mathlib.Core.Path.{_≡_};
-ghost use Prim.Native.Nat.{_+_, _*_, _<_, _≤_};
-ghost use lib.ListN.{length, getD};
-ghost use Rattle.octets.specs.Buffers.{slice, put};
-ghost use Rattle.octets.specs.Digits.{number, digits};
-ghost use Rattle.octets.specs.LowFirst.{bitsUp, numberUp};
-ghost use Rattle.octets.specs.Stream.{enciphered};
-ghost use Rattle.refusals.specs.Outcome.{outcome};
+ghost use Prim.Native.Nat.{_<_, min};
+ghost use lib.ListN.{length};
+ghost use Rattle.octets.specs.Digits.{number};
 ghost use Rattle.triad.specs.Calls.{refusedMaking, makingBy, makingCipher, makingTag, stepping, striding};
-ghost use Rattle.triad.specs.Calls.{enciphering, covering, absorbing, absorbingUnder, tagging};
+ghost use Rattle.triad.specs.Calls.{running, shortStriding, tagging};
 ghost use Rattle.triad.specs.Record.{state, packed};
-ghost use Rattle.triad.specs.State.{loaded, outputs, permuted, updates};
+ghost use Rattle.triad.specs.State.{loaded, permuted};
 
 // The 256 bits: a register's 64 newest bits stand in its word 0 and its older ones in its word 1, the newest of each
 // word as the most significant bit, so that the older word's lowest bits are spare.
@@ -68,38 +64,24 @@ fn load(key: &[u8], nonce: &[u8]) -> Registers
 {
     let a1 = word_of(0xfe, key[0], 0, 0, 0, 0, 0, 0);
     let a0 = word_of(nonce[0], key[4], 0xff, key[3], 0xff, key[2], 0xff, key[1]);
-    let b1 = low_bytes(nonce, 1, 3);
+    let b1 = word_of(nonce[3], nonce[2], nonce[1], 0, 0, 0, 0, 0);
     let b0 = samples::eight_from(nonce, 4);
-    let c1 = low_bytes(key, 5, 3);
+    let c1 = word_of(key[7], key[6], key[5], 0, 0, 0, 0, 0);
     let c0 = samples::eight_from(key, 8);
     Registers {
         a1,
         a0,
-        b1: b1 << 40,
+        b1,
         b0,
-        c1: c1 << 40,
+        c1,
         c0,
     }
 }
 
-// n bytes from `at` as a number, the least significant first.
-fn low_bytes(bytes: &[u8], at: usize, n: usize) -> u64
-    requires { ⌜ (at + n ≤ length (now bytes)) × (n ≤ 8) ⌝ }
-    ensures { λ r. ⌜ r ≡ number 256 (reverse (slice (now (bytes .entry)) at n)) ⌝ }
+fn at_most_64(n: usize) -> usize
+    ensures { λ r. ⌜ r ≡ min n 64 ⌝ }
 {
-    let read = octets::number_at(bytes, at, n);
-    samples::swapped(shift_registers::shifted(read, 0, 64 - 8 * n))
-}
-
-// n bytes from `at` under the last n of a word of keystream, where they stand.
-fn cover_at(bytes: &mut [u8], at: usize, n: usize, stream: u64)
-    requires { ⌜ (at + n ≤ length (now bytes)) × (n ≤ 8) ⌝ }
-    ensures { λ _. ⌜ now (bytes .exit)
-        ≡ put (now (bytes .entry)) at
-        (enciphered (λ i. getD (digits 256 n stream) i 0) (slice (now (bytes .entry)) at n)) ⌝ }
-{
-    let read = octets::number_at(bytes, at, n);
-    octet_writer::write_number(bytes, at, n, read ^ stream);
+    if n < 64 { n } else { 64 }
 }
 
 fn refused_making(number: u8) -> Made
@@ -120,10 +102,10 @@ fn refused_making(number: u8) -> Made
 
 impl Registers {
     // 64 updates, which take the bits of a message from the lowest on. Whole words move and nothing is cleared, so an
-    // older word goes on holding bits that the cipher is done with: what leaves the crate goes through `cleared`.
-    fn run(self, message: u64) -> Strode
-        ensures { λ r. ⌜ (r .word ≡ numberUp (outputs (bitsUp 64 message) (state self)))
-            × (state (r .next) ≡ updates (bitsUp 64 message) (state self)) ⌝ }
+    // older word goes on holding bits that the cipher is done with. This is for loops, which spare three words to clear
+    // at each turn: what they leave goes through `cleared` or `short_stride`.
+    pub fn run(self, message: u64) -> Strode
+        ensures { λ r. ⌜ r ≡ running self message ⌝ }
     {
         let new = triad_taps::stride(
             self.a1,
@@ -147,32 +129,8 @@ impl Registers {
         }
     }
 
-    // The word of 64 updates, and the registers after the first n of them.
-    fn part(self, message: u64, n: usize) -> Strode
-        requires { ⌜ n ≤ 64 ⌝ }
-        ensures { λ r. ⌜ (r .word ≡ numberUp (outputs (bitsUp 64 message) (state self)))
-            × (state (r .next) ≡ updates (bitsUp n message) (state self)) ⌝ }
-    {
-        let a0 = self.a0;
-        let b0 = self.b0;
-        let c0 = self.c0;
-        let new = triad_taps::stride(self.a1, a0, self.b1, b0, self.c1, c0, message);
-        let left = 64 - n;
-        Strode {
-            word: new.z,
-            next: Registers {
-                a1: shift_registers::shifted(a0, self.a1, left),
-                a0: shift_registers::shifted(new.a, a0, left),
-                b1: shift_registers::shifted(b0, self.b1, left),
-                b0: shift_registers::shifted(new.b, b0, left),
-                c1: shift_registers::shifted(c0, self.c1, left),
-                c0: shift_registers::shifted(new.c, c0, left),
-            },
-        }
-    }
-
     // The same registers with every spare bit zero.
-    fn cleared(self) -> Registers
+    pub fn cleared(self) -> Registers
         ensures { λ r. ⌜ r ≡ packed (state self) ⌝ }
     {
         let a1 = self.a1;
@@ -276,95 +234,27 @@ impl Registers {
         }
     }
 
-    // Bytes under the keystream where they stand, and the registers behind them.
-    pub fn cover(self, bytes: &mut [u8]) -> Registers
-        ensures { λ r. ⌜ outcome r (now (bytes .exit)) ≡ covering self (now (bytes .entry)) ⌝ }
+    // The word of 64 updates, and the registers after n of them, or after all where n is more.
+    pub fn short_stride(self, message: u64, n: usize) -> Strode
+        ensures { λ r. ⌜ r ≡ shortStriding self message n ⌝ }
     {
-        let n = bytes.len();
-        let mut registers = self;
-        let mut at = 0;
-        while at + 8 <= n {
-            let ran = registers.run(0);
-            cover_at(bytes, at, 8, samples::swapped(ran.word));
-            registers = ran.next;
-            at += 8;
+        let a0 = self.a0;
+        let b0 = self.b0;
+        let c0 = self.c0;
+        let new = triad_taps::stride(self.a1, a0, self.b1, b0, self.c1, c0, message);
+        let left = 64 - at_most_64(n);
+        let next = Registers {
+            a1: shift_registers::shifted(a0, self.a1, left),
+            a0: shift_registers::shifted(new.a, a0, left),
+            b1: shift_registers::shifted(b0, self.b1, left),
+            b0: shift_registers::shifted(new.b, b0, left),
+            c1: shift_registers::shifted(c0, self.c1, left),
+            c0: shift_registers::shifted(new.c, c0, left),
+        };
+        Strode {
+            word: new.z,
+            next: next.cleared(),
         }
-        let few = n - at;
-        let ran = registers.part(0, 8 * few);
-        let swapped = samples::swapped(ran.word);
-        cover_at(
-            bytes,
-            at,
-            few,
-            shift_registers::shifted(0, swapped, 8 * few),
-        );
-        let last = ran.next;
-        last.cleared()
-    }
-
-    // The input under the keystream, to the front of the output: it is copied, and enciphered there.
-    pub fn encipher(self, input: &[u8], output: &mut [u8]) -> Enciphered
-        ensures { λ r. ⌜ outcome r (now (output .exit))
-            ≡ enciphering self (now (input .entry)) (now (output .entry)) ⌝ }
-    {
-        let n = input.len();
-        if output.len() < n {
-            return Enciphered {
-                refusal: refusals::NO_ROOM,
-                next: self,
-            };
-        }
-        octet_writer::copy(output, 0, input);
-        let next = self.cover(&mut output[0..n]);
-        Enciphered {
-            refusal: refusals::ACCEPTED,
-            next,
-        }
-    }
-
-    // A piece of what the tag is over, taken in.
-    pub fn absorb(self, bytes: &[u8]) -> Registers
-        ensures { λ r. ⌜ r ≡ absorbing self (now (bytes .entry)) ⌝ }
-    {
-        let n = bytes.len();
-        let mut registers = self;
-        let mut at = 0;
-        while at + 8 <= n {
-            let message = samples::eight_from(bytes, at);
-            let ran = registers.run(message);
-            registers = ran.next;
-            at += 8;
-        }
-        let few = n - at;
-        let message = low_bytes(bytes, at, few);
-        let ran = registers.part(message, 8 * few);
-        let last = ran.next;
-        last.cleared()
-    }
-
-    // The same of a piece that is lent enciphered, from the place in its keystream where `cipher` stands. Each word is
-    // deciphered on its way, and stored nowhere.
-    pub fn absorb_under(self, cipher: Registers, bytes: &[u8]) -> Registers
-        ensures { λ r. ⌜ r ≡ absorbingUnder self cipher (now (bytes .entry)) ⌝ }
-    {
-        let n = bytes.len();
-        let mut registers = self;
-        let mut stream = cipher;
-        let mut at = 0;
-        while at + 8 <= n {
-            let key = stream.run(0);
-            let read = samples::eight_from(bytes, at);
-            let ran = registers.run(read ^ key.word);
-            registers = ran.next;
-            stream = key.next;
-            at += 8;
-        }
-        let few = n - at;
-        let key = stream.run(0);
-        let read = low_bytes(bytes, at, few);
-        let ran = registers.part(read ^ key.word, 8 * few);
-        let last = ran.next;
-        last.cleared()
     }
 
     // The tag of all that was taken in: its eight bytes as a number.

@@ -2,83 +2,18 @@
 // enciphered bytes; and the tag over a whole pack.
 ghost use mathlib.Core.List.{_++_, reverse};
 ghost use mathlib.Core.Path.{_≡_};
-ghost use Prim.Native.Nat.{_+_, _/_, _≤_};
 ghost use lib.ListN.{length};
-ghost use Rattle.octets.specs.Buffers.{slice, put};
+ghost use Rattle.octets.specs.Buffers.{put};
 ghost use Rattle.octets.specs.Digits.{digits};
-ghost use Rattle.octets.specs.Stream.{from, enciphered};
+ghost use Rattle.octets.specs.Stream.{enciphered};
 ghost use Rattle.samples.specs.Words.{wordsOf, bytesOfAll};
 ghost use Rattle.ciphers.specs.Calls.{valueFaults};
 ghost use Rattle.refusals.specs.Rules.{settled};
 ghost use Rattle.triad.specs.Calls.{makingTag, ahead, absorbing, absorbingUnder};
 ghost use Rattle.triad.specs.Tag.{padded, triad};
+use chunks::Cipher;
 use triad::Made;
 use triad::Registers;
-
-// How many bytes are deciphered at a time.
-const CHUNK: usize = 1024;
-
-// Room for them. Its length is all that anybody needs to know of it.
-fn blank() -> [u8; 1024]
-    ensures { λ r. ⌜ 1024 ≡ length r ⌝ }
-{
-    [0; CHUNK]
-}
-
-// So many bytes of the body from `at`, deciphered and read as samples to their place; and the registers behind them.
-fn read_chunk(
-    registers: Registers,
-    body: &[u8],
-    output: &mut [i16],
-    at: usize,
-    size: usize,
-) -> Registers
-    requires { ⌜ (size ≤ 1024) × (at + size ≤ length (now body)) × (at / 2 + size / 2 ≤ length (now output)) ⌝ }
-    ensures { λ r. ⌜ (ahead r ≡ from size (ahead registers)) × (now (output .exit) ≡ put (now (output .entry)) (at / 2)
-        (wordsOf (enciphered (ahead registers) (slice (now (body .entry)) at size)))) ⌝ }
-{
-    let mut chunk = blank();
-    let done = registers.encipher(octets::slice(body, at, size), &mut chunk);
-    let place = at / 2;
-    sample_runs::read_words(octets::slice(&chunk, 0, size), &mut output[place..]);
-    done.next
-}
-
-// A body deciphered chunk by chunk to the front of the output, if its samples have room there.
-fn read_samples(start: Registers, body: &[u8], output: &mut [i16])
-    ensures { λ _. ⌜ now (output .exit)
-        ≡ put (now (output .entry)) 0 (wordsOf (enciphered (ahead start) (now (body .entry)))) ⌝ }
-{
-    let n = body.len();
-    if output.len() < n / 2 {
-        return;
-    }
-    let mut registers = start;
-    let mut at = 0;
-    while at + CHUNK <= n {
-        registers = read_chunk(registers, body, output, at, CHUNK);
-        at += CHUNK;
-    }
-    read_chunk(registers, body, output, at, n % CHUNK);
-}
-
-// All samples, as bytes and enciphered, from `at`, if they have room there. As bytes they are written all at once,
-// which the compiler does eight at a time, and then enciphered.
-fn write_samples(start: Registers, samples: &[i16], output: &mut [u8], at: usize)
-    ensures { λ _. ⌜ now (output .exit)
-        ≡ put (now (output .entry)) at (enciphered (ahead start) (bytesOfAll (now (samples .entry)))) ⌝ }
-{
-    let n = 2 * samples.len();
-    if output.len() < at {
-        return;
-    }
-    if output.len() - at < n {
-        return;
-    }
-    sample_runs::write_words(samples, &mut output[at..]);
-    let end = at + n;
-    start.cover(&mut output[at..end]);
-}
 
 // The cipher of a key and an initial value.
 fn begun(key: &[u8], value: &[u8]) -> Registers
@@ -100,7 +35,7 @@ pub fn open_body(key: &[u8; 16], value: &[u8], body: &[u8], output: &mut [i16])
     if value.len() != triad::VALUE_BYTES {
         return;
     }
-    read_samples(begun(key, value), body, output);
+    chunks::read_samples(Cipher::Triad(begun(key, value)), body, output);
 }
 
 // Samples under a key and an initial value, as enciphered bytes from `at`, if the value has its length and the bytes
@@ -114,7 +49,7 @@ pub fn seal_body(key: &[u8; 16], value: &[u8], samples: &[i16], output: &mut [u8
     if value.len() != triad::VALUE_BYTES {
         return;
     }
-    write_samples(begun(key, value), samples, output, at);
+    chunks::write_samples(Cipher::Triad(begun(key, value)), samples, output, at);
 }
 
 // How many bytes the associated data are: seven bytes, the low one first.
@@ -144,16 +79,16 @@ pub fn with_data(start: Registers, front: &[u8], loops: &[u8]) -> Registers
     ensures { λ r. ⌜ r ≡ absorbing start (padded (now (front .entry) ++ now (loops .entry))) ⌝ }
 {
     let size = length_bytes((front.len() + loops.len()) as u64);
-    let one = start.absorb(front);
-    let two = one.absorb(loops);
-    two.absorb(&size)
+    let one = triad_runs::absorb(start, front);
+    let two = triad_runs::absorb(one, loops);
+    triad_runs::absorb(two, &size)
 }
 
 // The message taken in, which is lent enciphered.
 fn with_body(start: Registers, cipher: Registers, body: &[u8]) -> Registers
     ensures { λ r. ⌜ r ≡ absorbingUnder start cipher (now (body .entry)) ⌝ }
 {
-    start.absorb_under(cipher, body)
+    triad_runs::absorb_under(start, cipher, body)
 }
 
 // The tag that is due to a pack under a key and an initial value, if the value has its length: over all that stands

@@ -10,10 +10,10 @@ use Rattle.octets.proofs.LowFirst.{turned-below}
 use Rattle.shift_registers.specs.Registers.{State}
 use Rattle.triad.specs.{Calls.skipping, Calls.ahead, Record.packed, declared.Registers.Registers}
 use Rattle.triad.proofs.{Steps.skip-add, Theorems.goes-on}
-use Rattle.record_bytes.specs.Ciphers.{ciphered, KeptInTwo}
+use Rattle.record_bytes.specs.{Ciphers.ciphered, Ciphers.KeptInTwo, SixWords.sixWidths, SixWords.sixNumbers}
 use Rattle.record_bytes.proofs.Ciphers.{kept-leaves, kept-in-two}
 use Rattle.triad_bytes.specs.{Calls.triadMake, Calls.triadEncipher, Calls.triadTag}
-use Rattle.triad_bytes.specs.Record.{triadWidths, triadSize, triadNumbers, triadBytes, triadIn}
+use Rattle.triad_bytes.specs.Record.{triadSize, sixOf, triadBytes, triadIn}
 use Rattle.triad_bytes.proofs.Record.{length-triad, triad-back}
 
 pub triad-make-leaves : (buffer key value : List ℕ)
@@ -32,7 +32,7 @@ unfolding triadEncipher
 triad-encipher-leaves = kept-leaves triadSize triadIn triadBytes ahead skipping
 
 -- the registers that a call leaves fit their words, so they are read back
-packed-fits : (s : State) → Fits triadWidths (triadNumbers (packed s))
+packed-fits : (s : State) → Fits sixWidths (sixNumbers (sixOf (packed s)))
 unfolding packed
 packed-fits s = (
   turned-below (s .a / 2 ^ 64),

@@ -1,58 +1,42 @@
 // TRIAD for callers in other languages, who keep its record as bytes. A refused call writes nothing of all that it was
 // lent.
+use record_bytes::SixWords;
 use triad::Registers;
 ghost use mathlib.Core.Path.{_≡_};
-ghost use lib.ListN.{length};
-ghost use Rattle.octets.specs.Buffers.{put};
 ghost use Rattle.refusals.specs.Outcome.{outcome};
 ghost use Rattle.record_bytes.specs.Ciphers.{ciphered};
 ghost use Rattle.triad_bytes.specs.Calls.{triadMake, triadEncipher, triadTag};
-ghost use Rattle.triad_bytes.specs.Record.{triadSize, triadBytes, triadIn};
+ghost use Rattle.triad_bytes.specs.Record.{sixOf, registersOf};
 
 pub const CIPHER_BYTES: usize = 48;
 
 const TAG_BYTES: usize = 8;
 
-// The cipher that the bytes are, all of them: of too few no cipher is made.
-fn cipher_in(bytes: &[u8]) -> Registers
-    requires { ⌜ length (now bytes) ≡ triadSize ⌝ }
-    ensures { λ r. ⌜ r ≡ triadIn (now (bytes .entry)) ⌝ }
+// The registers that six words are, and the words that registers are.
+fn registers_of(words: SixWords) -> Registers
+    ensures { λ r. ⌜ r ≡ registersOf words ⌝ }
 {
-    let a1 = octets::number_at(bytes, 0, 8);
-    let a0 = octets::number_at(bytes, 8, 8);
-    let b1 = octets::number_at(bytes, 16, 8);
-    let b0 = octets::number_at(bytes, 24, 8);
-    let c1 = octets::number_at(bytes, 32, 8);
-    let c0 = octets::number_at(bytes, 40, 8);
     Registers {
-        a1,
-        a0,
-        b1,
-        b0,
-        c1,
-        c0,
+        a1: words.a1,
+        a0: words.a0,
+        b1: words.b1,
+        b0: words.b0,
+        c1: words.c1,
+        c0: words.c0,
     }
 }
 
-// Writes a cipher's bytes to the front of a buffer, if they have room there.
-fn write_cipher(d: &mut [u8], cipher: Registers)
-    ensures { λ _. ⌜ now (d .exit) ≡ put (now (d .entry)) 0 (triadBytes cipher) ⌝ }
+fn words_of(registers: Registers) -> SixWords
+    ensures { λ r. ⌜ r ≡ sixOf registers ⌝ }
 {
-    let a1 = cipher.a1;
-    let a0 = cipher.a0;
-    let b1 = cipher.b1;
-    let b0 = cipher.b0;
-    let c1 = cipher.c1;
-    let c0 = cipher.c0;
-    if d.len() < CIPHER_BYTES {
-        return;
+    SixWords {
+        a1: registers.a1,
+        a0: registers.a0,
+        b1: registers.b1,
+        b0: registers.b0,
+        c1: registers.c1,
+        c0: registers.c0,
     }
-    octet_writer::write_number(d, 0, 8, a1);
-    octet_writer::write_number(d, 8, 8, a0);
-    octet_writer::write_number(d, 16, 8, b1);
-    octet_writer::write_number(d, 24, 8, b0);
-    octet_writer::write_number(d, 32, 8, c1);
-    octet_writer::write_number(d, 40, 8, c0);
 }
 
 pub fn make(cipher: &mut [u8], key: &[u8], value: &[u8]) -> u8
@@ -67,8 +51,7 @@ pub fn make(cipher: &mut [u8], key: &[u8], value: &[u8]) -> u8
     if cipher.len() < CIPHER_BYTES {
         return refusals::NO_ROOM;
     }
-    let registers = made.registers;
-    write_cipher(cipher, registers);
+    record_bytes::write_six_words(cipher, words_of(made.registers));
     refusals::ACCEPTED
 }
 
@@ -79,14 +62,13 @@ pub fn encipher(cipher: &mut [u8], input: &[u8], output: &mut [u8]) -> u8
     if cipher.len() != CIPHER_BYTES {
         return refusals::NOT_A_CIPHER;
     }
-    let registers = cipher_in(cipher);
-    let done = registers.encipher(input, output);
+    let registers = registers_of(record_bytes::six_words_in(cipher));
+    let done = triad_runs::encipher(registers, input, output);
     let refusal = done.refusal;
     if refusal != refusals::ACCEPTED {
         return refusal;
     }
-    let next = done.next;
-    write_cipher(cipher, next);
+    record_bytes::write_six_words(cipher, words_of(done.next));
     refusals::ACCEPTED
 }
 
@@ -104,7 +86,7 @@ pub fn tag(key: &[u8], value: &[u8], associated: &[u8], message: &[u8], buffer: 
         return refusals::NO_ROOM;
     }
     let data = triad_body::with_data(made.registers, associated, octets::slice(associated, 0, 0));
-    let all = data.absorb(message);
+    let all = triad_runs::absorb(data, message);
     octet_writer::write_number(buffer, 0, TAG_BYTES, all.tag());
     refusals::ACCEPTED
 }

@@ -1,11 +1,12 @@
 -- Steps of the record: what is packed stands for the state that it was packed from, so laws of states are its laws.
 use mathlib.Core.{Path._≡_, Path.sym, Path.ap, Path.subst, Path._∙_, List.List}
-use Prim.Native.Nat.{ℕ, _+_, _*_, _^_, _<_}
+use Prim.Native.Nat.{ℕ, _+_, _*_, _^_, _<_, _≤_, min}
+use native.Mathlib.Omega.{arith}
 use Rattle.octets.specs.Digits.{number}
 use Rattle.shift_registers.proofs.Words.{joined-apart}
 use Rattle.taps.specs.{Keystream.bits, Registers.State, Registers.loaded, Registers.started, Registers.steps}
 use Rattle.taps.proofs.{Steps.held-words, Steps.held-moved, Steps.bits-small, Strides.strode}
-use Rattle.trivium.specs.Calls.{runningFrom, running, stopping, skipping}
+use Rattle.trivium.specs.Calls.{strides, shortStriding, runningFrom, running, stopping, skipping}
 use Rattle.trivium.specs.{Record.state, Record.packed, declared.Ran.Ran, declared.Registers.Registers}
 use Rattle.trivium.specs.declared.Running.{Running}
 pub use Rattle.taps.proofs.Steps.{Held, held-steps, steps-none, steps-add, steps-bytes, length-bits, bits-below}
@@ -52,6 +53,13 @@ skips-on r now n rest e last same = last ∙ ap (skipping now) same ∙ skip-fro
 
 pub skip-add : (r : Registers) (n m : ℕ) → skipping (skipping r n) m ≡ skipping r (n + m)
 skip-add r n m = skip-from r (skipping r n) n m (state-skip r n)
+
+-- a part of a stride, by bytes; how many bits it was asked for is given apart
+pub few-strode : (r : Registers) (n : ℕ) {m : ℕ} → m ≡ 8 * n → n ≤ 8 → shortStriding r m ≡ strides (8 * n) r
+unfolding shortStriding
+few-strode r n {m} e few =
+    let all : min m 64 ≡ 8 * n = omega arith in
+    ap (λ (k : ℕ). strides k r) all
 
 -- ---- a run of strides, for callers, who need not unfold its definitions
 

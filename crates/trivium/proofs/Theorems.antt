@@ -1,24 +1,24 @@
--- What the public calls' definitions come to. Each theorem rests on the laws of steps, and those on enciphering are what
--- holds of any cipher.
+-- What the public calls' definitions come to. Each theorem rests on the laws of steps, and those on enciphering are
+-- what holds of any cipher.
 use mathlib.Core.{Path._≡_, Path.refl, Path.sym, Path.ap, Path.subst, Path._∙_, List.List, List._∷_}
-use Prim.Native.Nat.{ℕ, zero, suc, _*_, _≤_}
+use Prim.Native.Nat.{ℕ, zero, suc, _*_, _≤_, min}
 use native.Mathlib.Omega.{arith}
 use lib.{ListN.length, ListN.take, Pow.shr-lt}
 use Rattle.octets.specs.{Buffers.placed, Digits.number, Stream.from, Stream.enciphered}
-use Rattle.refusals.specs.{Numbers.accepted, Outcome.Outcome, Outcome.outcome, Rules.Leaves, Rules.settled}
-use Rattle.refusals.proofs.Settled.{done-if, settled-leaves, settled-map, by-settled}
-use Rattle.ciphers.specs.Calls.{makeFaults, encipherFaults, TakenInTwo, GivesBack}
+use Rattle.refusals.specs.{Numbers.accepted, Outcome.outcome, Rules.Leaves}
+use Rattle.refusals.proofs.Settled.{done-if, settled-leaves, by-settled}
+use Rattle.ciphers.specs.Calls.{makeFaults, TakenInTwo, GivesBack}
 use Rattle.ciphers.proofs.Enciphering as any
 use Rattle.taps.specs.Keystream.{bits, keystream, trivium}
 use Rattle.taps.specs.Registers.{State, loaded, next, steps, started, outputBit}
 use Rattle.taps.proofs.{Bytes.gone, Steps.Held, Steps.held-steps, Steps.held-moved}
 use Rattle.trivium.specs.{Engines.plainly, Engines.plainBits, Record.state, Record.packed, Record.Clean}
-use Rattle.trivium.specs.{declared.Enciphered.Enciphered, declared.Made.Made, declared.Registers.Registers}
+use Rattle.trivium.specs.{declared.Made.Made, declared.Registers.Registers}
 use Rattle.trivium.specs.{declared.Running.Running, Calls.refusedMaking, Calls.makingCipher}
-use Rattle.trivium.specs.Calls.{makingAt, stepping, striding, running, stopping, skipping, answered, ahead}
-use Rattle.trivium.specs.Calls.{enciphering}
-use Rattle.trivium.proofs.Steps.{held-state, state-packed, state-started, state-steps, state-skip, skip-add, ran-word}
-use Rattle.trivium.proofs.Steps.{ran-state}
+use Rattle.trivium.specs.Calls.{makingAt, stepping, striding, shortStriding, running, stopping, skipping}
+use Rattle.trivium.specs.Calls.{answered, ahead, enciphering}
+use Rattle.trivium.proofs.Steps.{held-state, state-packed, state-started, state-steps, state-skip, skip-add}
+use Rattle.trivium.proofs.Steps.{ran-word, ran-state}
 
 -- ---- a refused call leaves everything as given
 
@@ -150,6 +150,10 @@ pub clean-strode : (r : Registers) → Clean (striding r .next)
 unfolding striding
 clean-strode r = clean-steps 64 r
 
+pub clean-short : (r : Registers) (n : ℕ) → Clean (shortStriding r n .next)
+unfolding shortStriding
+clean-short r n = clean-steps (min n 64) r
+
 pub clean-skipped : (r : Registers) (n : ℕ) → Clean (skipping r n)
 unfolding skipping
 clean-skipped r n = clean-steps (8 * n) r
@@ -173,6 +177,11 @@ module _ (r q : Registers) (same : state r ≡ state q) where
   unfolding striding
   same-strode = λ i. record { word = number 2 (bits 64 (same i)); next = packed (steps 64 (same i)) }
 
+  pub same-short : (n : ℕ) → shortStriding r n ≡ shortStriding q n
+  unfolding shortStriding
+  same-short n =
+      λ i. record { word = number 2 (bits (min n 64) (same i)); next = packed (steps (min n 64) (same i)) }
+
   pub same-skipped : (n : ℕ) → skipping r n ≡ skipping q n
   unfolding skipping
   same-skipped n = λ i. packed (steps (8 * n) (same i))
@@ -180,26 +189,19 @@ module _ (r q : Registers) (same : state r ≡ state q) where
   module _ (input output : List ℕ) where
     pub same-number : enciphering r input output .answer .refusal ≡ enciphering q input output .answer .refusal
     unfolding enciphering
-    same-number =
-        settled-map (λ (o : Outcome Enciphered ℕ). o .answer .refusal) (encipherFaults input output) _ _
-        ∙ sym (settled-map (λ (o : Outcome Enciphered ℕ). o .answer .refusal) (encipherFaults input output) _ _)
+    same-number = any.same-number answered ahead skipping (λ a. a .refusal) (λ n r. refl) r q input output
 
     pub same-buffer : enciphering r input output .buffer ≡ enciphering q input output .buffer
     unfolding enciphering
     same-buffer =
-        settled-map (λ (o : Outcome Enciphered ℕ). o .buffer) (encipherFaults input output) _ _
-        ∙ ap (λ (s : State). settled (encipherFaults input output)
-        (placed output 0 (enciphered (keystream s) input)) (λ n. output)) same
-        ∙ sym (settled-map (λ (o : Outcome Enciphered ℕ). o .buffer) (encipherFaults input output) _ _)
+        any.same-buffer answered ahead skipping (λ a. a .refusal) (λ n r. refl) r q input output (ap keystream same)
 
     pub same-enciphered : enciphering r input output .answer .refusal ≡ accepted
         → enciphering r input output ≡ enciphering q input output
-    same-enciphered z =
-        unrefused r input output z
-        ∙ (λ i.
-        outcome {A = Enciphered} (record { refusal = accepted; next = same-skipped (length input) i })
-        (placed output 0 (enciphered (keystream (same i)) input)))
-        ∙ sym (unrefused q input output (sym same-number ∙ z))
+    unfolding enciphering
+    same-enciphered =
+        any.same-enciphered answered ahead skipping (λ a. a .refusal) (λ n r. refl) r q input output (ap keystream same)
+        (same-skipped (length input))
 
 -- in a run as well
 pub same-ran : (w v : Running) → state (w .registers) ≡ state (v .registers)

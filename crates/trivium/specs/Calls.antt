@@ -1,5 +1,5 @@
 -- What each public call owes: its answer, and what a lent buffer holds afterwards, for every input.
-use Prim.Native.Nat.{ℕ, _*_, _%_, _^_}
+use Prim.Native.Nat.{ℕ, _*_, _%_, _^_, min}
 use mathlib.Core.List.{List}
 use Rattle.octets.specs.{Buffers.slice, Buffers.placed, Digits.number, Stream.Keystream, Stream.enciphered}
 use Rattle.refusals.specs.{Numbers.accepted, Outcome.Outcome, Rules.settled}
@@ -36,6 +36,10 @@ strides n r = record { word = number 2 (bits n (state r)); next = packed (steps 
 
 unfoldable pub striding : Registers → Strode
 striding r = strides 64 r
+
+-- a part of one
+unfoldable pub shortStriding : Registers → ℕ → Strode
+shortStriding r n = strides (min n 64) r
 
 -- a run of strides begins with every word of a record
 unfoldable pub runningFrom : Registers → Running

@@ -1,11 +1,10 @@
 ghost use mathlib.Core.Path.{_≡_};
-ghost use Prim.Native.Nat.{_+_, _*_, _≤_, min};
+ghost use Prim.Native.Nat.{_*_, min};
 ghost use lib.ListN.{length};
-ghost use Rattle.refusals.specs.Outcome.{outcome};
 ghost use Rattle.taps.specs.Registers.{steps, loaded};
 ghost use Rattle.taps.specs.Words.{newest};
 ghost use Rattle.trivium.specs.Calls.{refusedMaking, makingCipher, makingAt, stepping, strides, striding};
-ghost use Rattle.trivium.specs.Calls.{skipping, runningFrom, running, stopping, partEnciphered, enciphering};
+ghost use Rattle.trivium.specs.Calls.{shortStriding, skipping, runningFrom, running, stopping};
 ghost use Rattle.trivium.specs.Record.{state, packed};
 
 // The 288 bits: a register's upper bits stand in its word 1 and its 64 newest in its word 0, the newest of all as the
@@ -101,12 +100,6 @@ fn refused_making(number: u8) -> Made
     }
 }
 
-fn at_most_eight(n: usize) -> usize
-    ensures { λ r. ⌜ r ≡ min n 8 ⌝ }
-{
-    if n < 8 { n } else { 8 }
-}
-
 impl Registers {
     // A cipher, warmed up, from a key and an initial value of ten bytes each.
     pub fn new(key: &[u8], iv: &[u8]) -> Made
@@ -136,10 +129,10 @@ impl Registers {
         }
     }
 
-    // n bits and n steps, by what the taps give for them. The upper words move up, and spare bits go.
+    // n bits and n steps, 64 at most, by what the taps give for them. The upper words move up, and spare bits go.
     fn moved(self, n: usize, new: shift_registers::Newest) -> Strode
-        requires { ⌜ (n ≤ 64) × (new ≡ newest n (state self)) ⌝ }
-        ensures { λ r. ⌜ r ≡ strides n self ⌝ }
+        requires { ⌜ new ≡ newest (min n 64) (state self) ⌝ }
+        ensures { λ r. ⌜ r ≡ strides (min n 64) self ⌝ }
     {
         let a1 = shift_registers::shifted(self.a1, self.a0, n);
         let b1 = shift_registers::shifted(self.b1, self.b0, n);
@@ -178,12 +171,10 @@ impl Registers {
         self.moved(64, new)
     }
 
-    // A part of a stride: as many bits as the bytes have, and as many steps.
-    fn short_stride(self, bytes: usize) -> Strode
-        requires { ⌜ bytes ≤ 8 ⌝ }
-        ensures { λ r. ⌜ r ≡ strides (8 * bytes) self ⌝ }
+    // A part of a stride: n bits and n steps, and 64 if n is more.
+    pub fn short_stride(self, n: usize) -> Strode
+        ensures { λ r. ⌜ r ≡ shortStriding self n ⌝ }
     {
-        let n = 8 * bytes;
         let new = taps::short_stride(self.a1, self.a0, self.b1, self.b0, self.c1, self.c0, n);
         self.moved(n, new)
     }
@@ -195,53 +186,8 @@ impl Registers {
         let run = Running { registers: self };
         let passed = run.pass(bytes / 8);
         let registers = passed.registers;
-        let last = registers.short_stride(bytes % 8);
+        let last = registers.short_stride(8 * (bytes % 8));
         last.next
-    }
-
-    // So many bytes from `at`, eight or what is left of them at a turn: the few behind the sixteens.
-    fn encipher_rest(self, input: &[u8], output: &mut [u8], at: usize, bytes: usize) -> Registers
-        requires { ⌜ (at + bytes ≤ length (now input)) × (at + bytes ≤ length (now output)) ⌝ }
-        ensures { λ r. ⌜ (r ≡ skipping self bytes)
-            × (now (output .exit) ≡ partEnciphered self (now (input .entry)) (now (output .entry)) at bytes) ⌝ }
-    {
-        let end = at + bytes;
-        let mut registers = self;
-        let mut left = bytes;
-        while 0 < left {
-            let n = at_most_eight(left);
-            let strode = registers.short_stride(n);
-            octet_writer::cover(input, output, end - left, n, strode.word);
-            registers = strode.next;
-            left -= n;
-        }
-        let run = Running { registers };
-        run.stop()
-    }
-
-    // The input under the keystream, to the front of the output.
-    pub fn encipher(self, input: &[u8], output: &mut [u8]) -> Enciphered
-        ensures { λ r. ⌜ outcome r (now (output .exit))
-            ≡ enciphering self (now (input .entry)) (now (output .entry)) ⌝ }
-    {
-        let n = input.len();
-        if output.len() < n {
-            return Enciphered {
-                refusal: refusals::NO_ROOM,
-                next: self,
-            };
-        }
-        let mut running = Running { registers: self };
-        let mut at = 0;
-        while at + 16 <= n {
-            running = running.encipher_sixteen(input, output, at);
-            at += 16;
-        }
-        let registers = running.registers;
-        Enciphered {
-            refusal: refusals::ACCEPTED,
-            next: registers.encipher_rest(input, output, at, n - at),
-        }
     }
 }
 
@@ -304,20 +250,5 @@ impl Running {
             left -= 1;
         }
         running
-    }
-
-    // Sixteen bytes from `at`. After two strides each word of the registers is back in its place: a loop of these moves
-    // none.
-    fn encipher_sixteen(self, input: &[u8], output: &mut [u8], at: usize) -> Running
-        requires { ⌜ (at + 16 ≤ length (now input)) × (at + 16 ≤ length (now output)) ⌝ }
-        ensures { λ r. ⌜ (state (r .registers) ≡ steps 128 (state (self .registers)))
-            × (now (output .exit)
-            ≡ partEnciphered (self .registers) (now (input .entry)) (now (output .entry)) at 16) ⌝ }
-    {
-        let one = self.stride();
-        octet_writer::cover(input, output, at, 8, one.word);
-        let two = one.next.stride();
-        octet_writer::cover(input, output, at + 8, 8, two.word);
-        two.next
     }
 }

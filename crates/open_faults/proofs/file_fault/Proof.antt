@@ -10,18 +10,18 @@ use Rattle.open_faults.proofs.file_fault.Tie as tie
 
 returns : tie.Need-returns
 unfolding fileFaults
-returns c = c .verdict .ensures ∙ verdict-at 0 _ (omega arith) (omega arith) (omega arith)
+returns c = c .verdict-of .ensures ∙ verdict-at 0 _ (omega arith) (omega arith) (omega arith)
 
 cast-count : tie.Need-cast-count
 cast-count c = omega (arith, c .shared-slice-known2 .given 0)
 
 returns-2 : tie.Need-returns-2
 unfolding fileFaults
-returns-2 c = c .verdict2 .ensures ∙ verdict-at 1 _ (omega arith) (omega arith) (omega arith)
+returns-2 c = c .verdict-of2 .ensures ∙ verdict-at 1 _ (omega arith) (omega arith) (omega arith)
 
 returns-3 : tie.Need-returns-3
 unfolding fileFaults
-returns-3 c = c .verdict3 .ensures ∙ verdict-at 2 _ (omega arith) (omega arith) (omega arith)
+returns-3 c = c .verdict-of3 .ensures ∙ verdict-at 2 _ (omega arith) (omega arith) (omega arith)
 
 returns-4 : tie.Need-returns-4
 unfolding fileFaults
@@ -35,7 +35,7 @@ unfolding fileFaults
 returns-5 c =
     let name = c .before .before in
     let bad = sym (name .name-good .ensures ∙ ap nameGood (name .before .slice .ensures)) ∙ c .before .if4 .left in
-    c .verdict4 .ensures
+    c .verdict-of4 .ensures
     ∙ verdict-at 3 _ (omega arith, (omega arith, (omega arith, bad))) (omega arith) (omega arith)
 
 pub file-fault-spec : {M : Type 1} → statement M

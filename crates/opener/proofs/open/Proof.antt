@@ -21,7 +21,9 @@ use Rattle.pack.specs.Places.{byteAt, keyPlace, keyNumber, valuePlace, sampleCo
 use Rattle.pack.proofs.AcceptedFiles.{samples-counted}
 use Rattle.pack.proofs.Picking.{short-value}
 use Rattle.pack.proofs.Theorems.{keyed-numbered, keyed-shown, inspect-refusal, inspecting-leaves}
-use Rattle.opener.proofs.{Lacking.lacking-so, Shown.Shown, Shown.shown, open.Statement.statement}
+use Rattle.surveyor.proofs.Lacking.{lacking-so}
+use Rattle.inspector.proofs.Shown.{Shown, shown}
+use Rattle.opener.proofs.open.Statement.{statement}
 use Rattle.opener.proofs.open.Tie as tie
 
 -- ---- a file that isn't refused

@@ -3,7 +3,7 @@ use mathlib.Core.Path.{_≡_}
 use Prim.Native.Nat.{_-_, _*_, _≤_}
 use native.Mathlib.Omega.{arith}
 use Rattle.triad.specs.Record.{state}
-use Rattle.triad.proofs.{Steps.idle, Steps.idle-none, Steps.idle-on, Steps.permuted-strides}
+use Rattle.triad.proofs.{Steps.idle, Steps.idle-none, Steps.idle-on, Steps.permuted-strides, Steps.ran-state}
 use Rattle.triad.proofs.Registers.permuted.Statement.{statement}
 use Rattle.triad.proofs.Registers.permuted.Tie as tie
 
@@ -22,8 +22,8 @@ loop-again c =
     let l = c .before .before .before .loop in
     let begun = c .before .before .before .before .before .run .result .next in (
       omega arith,
-      idle-on (state begun) (state (l .registers)) (l .inv .1) (c .before .run2 .ensures .1) (omega arith) (omega arith)
-          (omega arith),
+      idle-on (state begun) (state (l .registers)) (l .inv .1) (ran-state (l .registers) _ (c .before .run2 .ensures))
+          (omega arith) (omega arith) (omega arith),
     )
 
 returns : tie.Need-returns Inv-loop μ-loop
@@ -31,7 +31,7 @@ returns c =
     let begun = c .before .before .before in
     let p = begun .before .args in
     permuted-strides (p .first) (state (p .self)) (state (begun .run .result .next)) (omega arith)
-    (begun .run .ensures .1) (c .before .loop .inv .1) (omega arith)
+    (ran-state (p .self) (p .first) (begun .run .ensures)) (c .before .loop .inv .1) (omega arith)
 
 pub permuted-spec : {M : Type 1} → statement M
 permuted-spec =

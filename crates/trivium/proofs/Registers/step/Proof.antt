@@ -23,4 +23,4 @@ returns c =
 
 pub step-spec : {M : Type 1} → statement M
 unfolding state
-step-spec = tie.close (tie.spec (λ c κs. tt) (λ c κs. (omega arith, c .step .ensures)) cast returns)
+step-spec = tie.close (tie.spec (λ c κs. tt) (λ c κs. c .step .ensures) cast returns)
