@@ -48,7 +48,7 @@ fn cipher(key: &[u8], pair: &[u8], session: u32, k: u16) -> Registers
     let mut value = [0; 10];
     octet_writer::copy(&mut value, 0, pair);
     octet_writer::write_number(&mut value, 6, 4, session as u64);
-    let made = Registers::new_at(key, &value, 8 * (k as u32));
+    let made = trivium_seek::make_at(key, &value, 8 * (k as u32));
     made.registers
 }
 
@@ -73,5 +73,5 @@ pub fn cover(
         return;
     }
     let registers = cipher(key, pair, session, k);
-    trivium_runs::encipher(registers, run, &mut buffer[at..]);
+    registers.encipher(run, &mut buffer[at..]);
 }

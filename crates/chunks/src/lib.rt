@@ -10,6 +10,7 @@ ghost use Rattle.chunks.specs.Ahead.{ahead};
 
 // A cipher at some place of its keystream.
 pub enum Cipher {
+    Trivium(trivium::Registers),
     Enocoro(enocoro::Registers),
     Triad(triad::Registers),
 }
@@ -30,6 +31,7 @@ fn cover(cipher: Cipher, bytes: &mut [u8]) -> Cipher
         × (now (bytes .exit) ≡ enciphered (ahead cipher) (now (bytes .entry))) ⌝ }
 {
     match cipher {
+        Cipher::Trivium(registers) => Cipher::Trivium(registers.cover(bytes)),
         Cipher::Enocoro(registers) => Cipher::Enocoro(registers.cover(bytes)),
         Cipher::Triad(registers) => Cipher::Triad(triad_runs::cover(registers, bytes)),
     }

@@ -41,7 +41,7 @@ pub fn make(cipher: &mut [u8], key: &[u8], value: &[u8]) -> u8
     ensures { λ r. ⌜ outcome r (now (cipher .exit)) ≡ cipherMake (now (cipher .entry)) (now (key .entry)) (now
         (value .entry)) ⌝ }
 {
-    let made = Registers::new(key, value);
+    let made = trivium_seek::make(key, value);
     let refusal = made.refusal;
     if refusal != refusals::ACCEPTED {
         return refusal;
@@ -61,7 +61,7 @@ pub fn encipher(cipher: &mut [u8], input: &[u8], output: &mut [u8]) -> u8
         return refusals::NOT_A_CIPHER;
     }
     let registers = registers_of(record_bytes::six_words_in(cipher));
-    let done = trivium_runs::encipher(registers, input, output);
+    let done = registers.encipher(input, output);
     let refusal = done.refusal;
     if refusal != refusals::ACCEPTED {
         return refusal;

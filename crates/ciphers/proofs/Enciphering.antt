@@ -75,6 +75,15 @@ module _ {Record Answer : Type 0} (answer : ℕ → Record → Answer) (stream :
           ∙ (λ i. outcome (answer accepted (on i)) (placed output 0 (enciphered (ahead i) input)))
           ∙ sym (unrefused number so q input output (sym same-number ∙ z))
 
+  -- Bytes enciphered where they stand: the record behind them has the keystream from there on.
+  pub covers : ((r : Record) (n : ℕ) → stream (moved r n) ≡ from n (stream r)) → (r : Record) (bytes : List ℕ)
+      {next : Record} {after : List ℕ} → outcome next after ≡ outcome (moved r (length bytes)) (enciphered (stream r) bytes)
+      → (stream next ≡ from (length bytes) (stream r)) × (after ≡ enciphered (stream r) bytes)
+  covers goes r bytes e = (
+    ap (λ (o : Outcome Record ℕ). stream (o .answer)) e ∙ goes r (length bytes),
+    ap (λ (o : Outcome Record ℕ). o .buffer) e,
+  )
+
   -- What was copied to an output's front, enciphered there; `n` is what the code says of its length.
   pub in-front : (r : Record) (input d left : List ℕ) (n : ℕ) {part : List ℕ} {next : Record} → left ≡ put d 0 input
       → length input ≡ n → n ≤ length d

@@ -30,7 +30,7 @@ fn tag_differs(file: &[u8], told: Opened, ring: [[u8; 16]; 4]) -> bool
     let body = octets::slice(file, body_at, size);
     let loops = octets::slice(file, loop_at, loops_size);
     let own = ring[row];
-    let due = triad_body::tag_due(&own, value, front, loops, body);
+    let due = triad_tags::tag_due(&own, value, front, loops, body);
     let tag_at = loop_at + loops_size + 1;
     // lent by itself, for the compiler to see that all of it is there
     let there = octets::number_at(&file[tag_at..tag_at + 8], 0, 8);

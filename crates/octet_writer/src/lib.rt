@@ -4,6 +4,7 @@ ghost use Prim.Native.Nat.{_/_, _%_, _^_};
 ghost use lib.Bits.{bitXor};
 ghost use Rattle.octets.specs.Buffers.{put};
 ghost use Rattle.octets.specs.Digits.{digits, numberAt, word};
+ghost use Rattle.samples.specs.Words.{swapped};
 
 // Copies a run to the elements from `at`, if it has room there.
 pub fn copy(d: &mut [u8], at: usize, run: &[u8])
@@ -49,11 +50,32 @@ pub fn write_number(d: &mut [u8], at: usize, n: usize, value: u64)
     }
 }
 
-// n bytes from `at` under the last n of a word of keystream, read and written as one number.
-pub fn cover(input: &[u8], output: &mut [u8], at: usize, n: usize, stream: u64)
-    ensures { λ _. ⌜ now (output .exit)
-        ≡ put (now (output .entry)) at (digits 256 n (bitXor (word (numberAt (now (input .entry)) at n)) stream)) ⌝ }
+// Writes the eight bytes of a word from `at`, the least significant first, if they have room there. The compiler stores
+// them as they stand.
+pub fn write_low(d: &mut [u8], at: usize, word: u64)
+    ensures { λ _. ⌜ now (d .exit) ≡ put (now (d .entry)) at (digits 256 8 (swapped word)) ⌝ }
 {
-    let read = octets::number_at(input, at, n);
-    write_number(output, at, n, read ^ stream);
+    if d.len() < at {
+        return;
+    }
+    if d.len() - at < 8 {
+        return;
+    }
+    d[at] = (word % 256) as u8;
+    d[at + 1] = ((word >> 8) % 256) as u8;
+    d[at + 2] = ((word >> 16) % 256) as u8;
+    d[at + 3] = ((word >> 24) % 256) as u8;
+    d[at + 4] = ((word >> 32) % 256) as u8;
+    d[at + 5] = ((word >> 40) % 256) as u8;
+    d[at + 6] = ((word >> 48) % 256) as u8;
+    d[at + 7] = ((word >> 56) % 256) as u8;
+}
+
+// n bytes from `at` under the last n of a word of keystream, where they stand: read and written as one number.
+pub fn cover(bytes: &mut [u8], at: usize, n: usize, stream: u64)
+    ensures { λ _. ⌜ now (bytes .exit)
+        ≡ put (now (bytes .entry)) at (digits 256 n (bitXor (word (numberAt (now (bytes .entry)) at n)) stream)) ⌝ }
+{
+    let read = octets::number_at(bytes, at, n);
+    write_number(bytes, at, n, read ^ stream);
 }

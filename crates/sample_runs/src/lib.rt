@@ -1,7 +1,40 @@
 // Runs of samples, read from bytes and written as bytes where they have room.
 ghost use mathlib.Core.Path.{_≡_};
+ghost use Prim.Native.Nat.{_/_, _≤_};
+ghost use lib.ListN.{length};
 ghost use Rattle.octets.specs.Buffers.{put};
 ghost use Rattle.samples.specs.Words.{wordsOf, bytesOfAll};
+ghost use Rattle.sample_runs.specs.Unturned.{unturned, turnedFront};
+
+// Takes all whole words of the bytes to the front of the output as they stand, as if the least significant byte came
+// first: so the compiler moves them many at a time.
+fn take_words(bytes: &[u8], output: &mut [i16])
+    requires { ⌜ length (now bytes) / 2 ≤ length (now output) ⌝ }
+    ensures { λ _. ⌜ now (output .exit) ≡ put (now (output .entry)) 0 (unturned (now (bytes .entry))) ⌝ }
+{
+    let words = bytes.len() / 2;
+    let mut i = 0;
+    while i < words {
+        let first = bytes[2 * i] as u16;
+        let second = bytes[2 * i + 1] as u16;
+        output[i] = samples::signed(second * 256 + first);
+        i += 1;
+    }
+}
+
+// Turns the first samples of the output, so many. The compiler does eight at a time here, and raises the lowest with
+// them.
+fn turn(output: &mut [i16], count: usize)
+    requires { ⌜ count ≤ length (now output) ⌝ }
+    ensures { λ _. ⌜ now (output .exit) ≡ put (now (output .entry)) 0 (turnedFront count (now (output .entry))) ⌝ }
+{
+    let mut i = 0;
+    while i < count {
+        let bits = samples::bits(output[i]);
+        output[i] = samples::word((bits % 256) as u8, (bits / 256) as u8);
+        i += 1;
+    }
+}
 
 // Reads all whole words of the bytes to the front of the output, if they have room there.
 pub fn read_words(bytes: &[u8], output: &mut [i16])
@@ -11,11 +44,8 @@ pub fn read_words(bytes: &[u8], output: &mut [i16])
     if output.len() < n {
         return;
     }
-    let mut i = 0;
-    while i < n {
-        output[i] = samples::word(bytes[2 * i], bytes[2 * i + 1]);
-        i += 1;
-    }
+    take_words(bytes, output);
+    turn(output, n);
 }
 
 // Writes the samples' bytes to the front of the output, if they have room there.

@@ -5,11 +5,9 @@ ghost use Prim.Native.Nat.{suc, _+_, _*_, _/_, _≤_};
 ghost use lib.ListN.{length};
 ghost use Rattle.octets.specs.Buffers.{put};
 ghost use Rattle.octets.specs.Rows.{row};
-ghost use Rattle.octets.specs.Stream.{enciphered};
-ghost use Rattle.samples.specs.Words.{bytesOfAll};
 ghost use Rattle.triad.specs.Tag.{triad};
 ghost use Rattle.pack.specs.Calls.{sealingFile};
-ghost use Rattle.pack.specs.Ciphers.{cipherOf, rings, ringFor};
+ghost use Rattle.pack.specs.Ciphers.{cipherOf, rings};
 ghost use Rattle.pack.specs.Layout.{parts, fours, keyNamed, tagLength};
 ghost use Rattle.sealer.specs.Tags.{tagRow};
 ghost use Rattle.refusals.specs.Outcome.{outcome};
@@ -52,40 +50,6 @@ fn write_loops(output: &mut [u8], at: usize, loops: &[u32])
     }
 }
 
-// Samples under the key of its ring that a cipher and a key number name, at their place.
-fn write_body(
-    kind: Kind,
-    ring: [[u8; 10]; 4],
-    second: [[u8; 16]; 4],
-    third: [[u8; 16]; 4],
-    number: u8,
-    value: &[u8],
-    samples: &[i16],
-    output: &mut [u8],
-    at: usize,
-)
-    requires { ⌜ (number ≤ 3) × (length (now value) ≡ cipherOf kind .valueBytes) ⌝ }
-    ensures { λ _. ⌜ now (output .exit) ≡ put (now (output .entry)) at (enciphered
-        (cipherOf kind .stream (keyNamed (ringFor kind (rings ring second third)) number) (now (value .entry)))
-        (bytesOfAll (now (samples .entry)))) ⌝ }
-{
-    let row = number as usize;
-    match kind {
-        Kind::Trivium => {
-            let key = ring[row];
-            body_writer::seal_body(&key, value, samples, output, at);
-        }
-        Kind::Enocoro => {
-            let key = second[row];
-            enocoro_body::seal_body(&key, value, samples, output, at);
-        }
-        Kind::Triad => {
-            let key = third[row];
-            triad_body::seal_body(&key, value, samples, output, at);
-        }
-    }
-}
-
 // The tag section of a file under TRIAD that is written up to it: by what stands in the output before the body, in the
 // loop section, and in the body, which is enciphered and stands from `start` to `stop`.
 fn write_tag(
@@ -107,7 +71,7 @@ fn write_tag(
     let front = octets::slice(output, 0, start);
     let loops = octets::slice(output, stop, at - stop);
     let body = octets::slice(output, start, stop - start);
-    let due = triad_body::tag_due(&own, value, front, loops, body);
+    let due = triad_tags::tag_due(&own, value, front, loops, body);
     octet_writer::write_number(output, at, 1, 8);
     octet_writer::write_number(output, at + 1, 8, due);
 }
@@ -165,7 +129,7 @@ pub fn seal(
     let loop_at = body_at + 2 * samples.len();
     let tag_at = loop_at + 1 + 4 * loops.len();
     write_front(output, name, key, value, samples.len());
-    write_body(
+    bodies::write(
         kind,
         ring,
         second,

@@ -103,8 +103,8 @@ fn strides_agree(from: Registers, steps: usize) -> bool {
 fn skips_agree(from: Registers, steps: usize, input: &[u8]) -> bool {
     let mut output = untouched();
     let stepped = walk(from, steps);
-    let skipped = from.skip(input.len());
-    let enciphered = trivium_runs::encipher(from, input, &mut output);
+    let skipped = trivium_seek::skip(from, input.len());
+    let enciphered = from.encipher(input, &mut output);
     trims(skipped, stepped.next) && trims(enciphered.next, skipped)
 }
 
@@ -145,7 +145,7 @@ fn show_output(output: &[u8; 48], room: usize) {
 fn encipher(from: Registers, input: &[u8], output_bytes: usize) -> Registers {
     let mut output = untouched();
     let room = output_bytes % 49;
-    let enciphered = trivium_runs::encipher(from, input, &mut output[0..room]);
+    let enciphered = from.encipher(input, &mut output[0..room]);
     test_kit::print_number(b" ", enciphered.refusal as u64);
     show_output(&output, room);
     enciphered.next
@@ -162,7 +162,7 @@ fn run(kept: Registers, letter: u8, bytes: &[u8], n: usize, count: usize) -> Reg
             show(next);
         }
         b'm' => {
-            let made = Registers::new(first, rest);
+            let made = trivium_seek::make(first, rest);
             test_kit::print_number(b" ", made.refusal as u64);
             next = made.registers;
             show(next);

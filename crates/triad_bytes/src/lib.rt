@@ -85,7 +85,7 @@ pub fn tag(key: &[u8], value: &[u8], associated: &[u8], message: &[u8], buffer: 
     if buffer.len() < TAG_BYTES {
         return refusals::NO_ROOM;
     }
-    let data = triad_body::with_data(made.registers, associated, octets::slice(associated, 0, 0));
+    let data = triad_tags::with_data(made.registers, associated, octets::slice(associated, 0, 0));
     let all = triad_runs::absorb(data, message);
     octet_writer::write_number(buffer, 0, TAG_BYTES, all.tag());
     refusals::ACCEPTED

@@ -1,8 +1,9 @@
 -- What each public call owes: its answer, and what a lent buffer holds afterwards, for every input.
 use Prim.Native.Nat.{ℕ, _*_, _%_, _^_, min}
 use mathlib.Core.List.{List}
-use Rattle.octets.specs.{Buffers.slice, Buffers.placed, Digits.number, Stream.Keystream, Stream.enciphered}
-use Rattle.refusals.specs.{Numbers.accepted, Outcome.Outcome, Rules.settled}
+use lib.ListN.{length}
+use Rattle.octets.specs.{Digits.number, Stream.Keystream, Stream.enciphered}
+use Rattle.refusals.specs.{Numbers.accepted, Outcome.Outcome, Outcome.outcome, Rules.settled}
 use Rattle.ciphers.specs.Calls.{makeFaults, enciphersBy}
 use Rattle.taps.specs.Keystream.{bits, keystream, trivium}
 use Rattle.taps.specs.Registers.{State, outputBit, next, steps, started}
@@ -74,16 +75,16 @@ stopping w = packed (state (w .registers))
 unfoldable pub skipping : Registers → ℕ → Registers
 skipping r bytes = packed (steps (8 * bytes) (state r))
 
--- n bytes from `at` under the keystream, in their place in the output
-abbrev pub partEnciphered : Registers → List ℕ → List ℕ → ℕ → ℕ → List ℕ
-partEnciphered r input output at n = placed output at (enciphered (keystream (state r)) (slice input at n))
-
 -- a record's answer, and the keystream from the place where the record stands
 abbrev pub answered : ℕ → Registers → Enciphered
 answered number r = record { refusal = number; next = r }
 
 abbrev pub ahead : Registers → Keystream
 ahead r = keystream (state r)
+
+-- bytes under the keystream where they stand
+unfoldable pub covering : Registers → List ℕ → Outcome Registers ℕ
+covering r bytes = outcome (skipping r (length bytes)) (enciphered (ahead r) bytes)
 
 -- the bytes under the keystream, at the front of the output
 unfoldable pub enciphering : Registers → List ℕ → List ℕ → Outcome Enciphered ℕ

@@ -1,11 +1,15 @@
 ghost use mathlib.Core.Path.{_≡_};
-ghost use Prim.Native.Nat.{_*_, min};
-ghost use lib.ListN.{length};
-ghost use Rattle.taps.specs.Registers.{steps, loaded};
+ghost use Prim.Native.Nat.{_+_, _-_, _≤_, min};
+ghost use lib.ListN.{length, drop};
+ghost use Rattle.octets.specs.Buffers.{slice, put};
+ghost use Rattle.octets.specs.Stream.{enciphered};
+ghost use Rattle.refusals.specs.Outcome.{outcome};
+ghost use Rattle.taps.specs.Keystream.{keystream};
+ghost use Rattle.taps.specs.Registers.{steps};
 ghost use Rattle.taps.specs.Words.{newest};
-ghost use Rattle.trivium.specs.Calls.{refusedMaking, makingCipher, makingAt, stepping, strides, striding};
-ghost use Rattle.trivium.specs.Calls.{shortStriding, skipping, runningFrom, running, stopping};
-ghost use Rattle.trivium.specs.Record.{state, packed};
+ghost use Rattle.trivium.specs.Calls.{stepping, strides, striding, shortStriding, runningFrom, running, stopping};
+ghost use Rattle.trivium.specs.Calls.{skipping, covering, enciphering};
+ghost use Rattle.trivium.specs.Record.{state};
 
 // The 288 bits: a register's upper bits stand in its word 1 and its 64 newest in its word 0, the newest of all as the
 // lowest bit.
@@ -55,9 +59,6 @@ pub const KEY_BYTES: usize = 10;
 
 pub const VALUE_BYTES: usize = 10;
 
-// The blank rounds, as strides.
-const WARM_UP: usize = 18;
-
 // One more than the highest number that a register's upper word holds of it: 29 of 93 bits, 20 of 84 and 47 of 111.
 const A_TOP: u64 = 536870912;
 
@@ -65,70 +66,13 @@ const B_TOP: u64 = 1048576;
 
 const C_TOP: u64 = 140737488355328;
 
-// The registers before warm-up. Key and initial value come in with their first bit as the oldest.
-fn load(key: &[u8], iv: &[u8]) -> Registers
-    requires { ⌜ (length (now key) ≡ 10) × (length (now iv) ≡ 10) ⌝ }
-    ensures { λ r. ⌜ state r ≡ loaded (now (key .entry)) (now (iv .entry)) ⌝ }
+fn at_most_eight(n: usize) -> usize
+    ensures { λ r. ⌜ r ≡ min n 8 ⌝ }
 {
-    let a1 = octets::number_at(key, 0, 2);
-    let a0 = octets::number_at(key, 2, 8);
-    let b1 = octets::number_at(iv, 0, 2);
-    let b0 = octets::number_at(iv, 2, 8);
-    Registers {
-        a1,
-        a0,
-        b1,
-        b0,
-        c1: 7 << 44,
-        c0: 0,
-    }
-}
-
-fn refused_making(number: u8) -> Made
-    ensures { λ r. ⌜ r ≡ refusedMaking number ⌝ }
-{
-    Made {
-        refusal: number,
-        registers: Registers {
-            a1: 0,
-            a0: 0,
-            b1: 0,
-            b0: 0,
-            c1: 0,
-            c0: 0,
-        },
-    }
+    if n < 8 { n } else { 8 }
 }
 
 impl Registers {
-    // A cipher, warmed up, from a key and an initial value of ten bytes each.
-    pub fn new(key: &[u8], iv: &[u8]) -> Made
-        ensures { λ r. ⌜ r ≡ makingCipher (now (key .entry)) (now (iv .entry)) ⌝ }
-    {
-        Registers::new_at(key, iv, 0)
-    }
-
-    // The same, moved on by so many strides. Blank rounds and rounds passed over are one loop: with a count that it
-    // can't see, the compiler keeps one copy of it for whoever makes a cipher.
-    pub fn new_at(key: &[u8], iv: &[u8], strides: u32) -> Made
-        ensures { λ r. ⌜ r ≡ makingAt (now (key .entry)) (now (iv .entry)) strides ⌝ }
-    {
-        if key.len() != KEY_BYTES {
-            return refused_making(refusals::BAD_KEY);
-        }
-        if iv.len() != VALUE_BYTES {
-            return refused_making(refusals::BAD_VALUE);
-        }
-        let start = Running {
-            registers: load(key, iv),
-        };
-        let passed = start.pass(WARM_UP + (strides as usize));
-        Made {
-            refusal: refusals::ACCEPTED,
-            registers: passed.stop(),
-        }
-    }
-
     // n bits and n steps, 64 at most, by what the taps give for them. The upper words move up, and spare bits go.
     fn moved(self, n: usize, new: shift_registers::Newest) -> Strode
         requires { ⌜ new ≡ newest (min n 64) (state self) ⌝ }
@@ -179,15 +123,38 @@ impl Registers {
         self.moved(n, new)
     }
 
-    // The registers after so many bytes of keystream that nobody takes.
-    pub fn skip(self, bytes: usize) -> Registers
-        ensures { λ r. ⌜ r ≡ skipping self bytes ⌝ }
+    // Bytes under the keystream where they stand, and the registers behind them.
+    pub fn cover(self, bytes: &mut [u8]) -> Registers
+        ensures { λ r. ⌜ outcome r (now (bytes .exit)) ≡ covering self (now (bytes .entry)) ⌝ }
     {
-        let run = Running { registers: self };
-        let passed = run.pass(bytes / 8);
-        let registers = passed.registers;
-        let last = registers.short_stride(8 * (bytes % 8));
-        last.next
+        let n = bytes.len();
+        let mut running = Running::of(self);
+        let mut at = 0;
+        while at + 16 <= n {
+            running = running.cover_sixteen(bytes, at);
+            at += 16;
+        }
+        running.cover_rest(bytes, at)
+    }
+
+    // The input under the keystream, to the front of the output: it is copied, and enciphered there.
+    pub fn encipher(self, input: &[u8], output: &mut [u8]) -> Enciphered
+        ensures { λ r. ⌜ outcome r (now (output .exit))
+            ≡ enciphering self (now (input .entry)) (now (output .entry)) ⌝ }
+    {
+        let n = input.len();
+        if output.len() < n {
+            return Enciphered {
+                refusal: refusals::NO_ROOM,
+                next: self,
+            };
+        }
+        octet_writer::copy(output, 0, input);
+        let next = self.cover(&mut output[0..n]);
+        Enciphered {
+            refusal: refusals::ACCEPTED,
+            next,
+        }
     }
 }
 
@@ -238,17 +205,41 @@ impl Running {
         }
     }
 
-    // So many strides whose bits nobody takes.
-    fn pass(self, strides: usize) -> Running
-        ensures { λ r. ⌜ state (r .registers) ≡ steps (64 * strides) (state (self .registers)) ⌝ }
+    // Sixteen bytes from `at`, under the keystream where they stand. After two strides each word of the registers is back
+    // in its place: a loop of these moves none. Bytes are loaded and stored as they stand, and the keystream is turned.
+    fn cover_sixteen(self, bytes: &mut [u8], at: usize) -> Running
+        requires { ⌜ at + 16 ≤ length (now bytes) ⌝ }
+        ensures { λ r. ⌜ (state (r .registers) ≡ steps 128 (state (self .registers)))
+            × (now (bytes .exit) ≡ put (now (bytes .entry)) at
+            (enciphered (keystream (state (self .registers))) (slice (now (bytes .entry)) at 16))) ⌝ }
     {
-        let mut running = self;
-        let mut left = strides;
+        let one = self.stride();
+        let two = one.next.stride();
+        let first = samples::eight_from(bytes, at);
+        let second = samples::eight_from(bytes, at + 8);
+        octet_writer::write_low(bytes, at, first ^ samples::swapped(one.word));
+        octet_writer::write_low(bytes, at + 8, second ^ samples::swapped(two.word));
+        two.next
+    }
+
+    // The bytes from `at`, the few behind the sixteens, under the keystream where they stand, eight or what is left of
+    // them at a turn; and the record behind them.
+    fn cover_rest(self, bytes: &mut [u8], at: usize) -> Registers
+        requires { ⌜ at ≤ length (now bytes) ⌝ }
+        ensures { λ r. ⌜ (r ≡ skipping (self .registers) (length (now (bytes .entry)) - at))
+            × (now (bytes .exit) ≡ put (now (bytes .entry)) at
+            (enciphered (keystream (state (self .registers))) (drop at (now (bytes .entry))))) ⌝ }
+    {
+        let end = bytes.len();
+        let mut registers = self.stop();
+        let mut left = end - at;
         while 0 < left {
-            let ran = running.stride();
-            running = ran.next;
-            left -= 1;
+            let n = at_most_eight(left);
+            let strode = registers.short_stride(8 * n);
+            octet_writer::cover(bytes, end - left, n, strode.word);
+            registers = strode.next;
+            left -= n;
         }
-        running
+        registers
     }
 }

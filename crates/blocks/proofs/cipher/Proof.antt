@@ -27,7 +27,7 @@ returns c =
     ∙ ap (λ (d : List ℕ). put d 6 (digits 256 4 (p .session))) (copied .copy .ensures)
     ∙ value-made _ (p .pair .now) (p .session) refl (s .pre .1) in
     ap (λ (m : Made). keystream (state (m .registers)))
-    (moved (p .key .now) (initial (p .pair .now) (p .session)) (8 * p .k) (made .new-at .ensures) refl value
+    (moved (p .key .now) (initial (p .pair .now) (p .session)) (8 * p .k) (made .make-at .ensures) refl value
     (omega arith))
     ∙ stands (p .key .now) (p .pair .now) (p .session) (p .k) (s .pre .0) (s .pre .1)
 

@@ -11,14 +11,14 @@ returns : tie.Need-returns
 unfolding cipherMake makingCipher
 returns c =
     made-refused _ _ _ (λ a. a .refusal) (λ a. cipherBytes (a .registers)) _ _ tt refl (λ n. refl)
-    (c .before .new .ensures)
+    (c .before .make .ensures)
     (c .if1 .taken)
 
 returns-2 : tie.Need-returns-2
 unfolding cipherMake makingCipher
 returns-2 c =
     made-short _ _ _ (λ a. a .refusal) (λ a. cipherBytes (a .registers)) _ _ tt refl (λ n. refl)
-    (c .before .before .new .ensures)
+    (c .before .before .make .ensures)
     (c .before .if1 .left) (c .if2 .taken)
 
 returns-3 : tie.Need-returns-3
@@ -26,7 +26,7 @@ unfolding cipherMake makingCipher
 returns-3 c =
     let room = c .before .before .before .before .before in
     made-stored _ _ _ (λ a. a .refusal) (λ a. cipherBytes (a .registers)) _ _ tt refl (λ n. refl)
-    (room .before .before .new .ensures)
+    (room .before .before .make .ensures)
     (room .before .if1 .left) (room .if2 .left) (λ _. length-cipher _)
     (cipher-written _ _ (c .before .before .before .words-of .ensures) (c .before .before .write-six-words .ensures))
 

@@ -12,7 +12,7 @@ returns c =
     let p = c .before .before .before .before .before .before .before .args in
     let call = c .before .before .write-number in
     call .ensures
-    ∙ ap (λ (x : ℕ). put (p .output .now) (p .at) (digits 256 (p .n) (bitXor x (p .stream))))
+    ∙ ap (λ (x : ℕ). put (p .bytes .now) (p .at) (digits 256 (p .n) (bitXor x (p .stream))))
     (c .before .before .before .before .number-at .ensures)
 
 pub cover-spec : {M : Type 1} → statement M

@@ -23,6 +23,7 @@ use Rattle.pack.proofs.Picking.{short-value}
 use Rattle.pack.proofs.Theorems.{keyed-numbered, keyed-shown, inspect-refusal, inspecting-leaves}
 use Rattle.surveyor.proofs.Lacking.{lacking-so}
 use Rattle.inspector.proofs.Shown.{Shown, shown}
+use Rattle.bodies.specs.Bodies.{reading}
 use Rattle.opener.proofs.open.Statement.{statement}
 use Rattle.opener.proofs.open.Tie as tie
 
@@ -169,15 +170,8 @@ kind-is c =
     let e = from-kind c in
     c .kind-of .ensures ∙ ap (λ (n : ℕ). picked (byteAt (file e) n)) (omega (arith, known e .value))
 
-read-body-requires : tie.Need-read-body-requires
-read-body-requires c κs =
-    let k = c .before in (
-      omega (arith, known (from-kind k) .row),
-      value-long (k .before .before) ∙ ap (λ (x : Kind). cipherOf x .valueBytes) (sym (kind-is k)),
-    )
-
 returns-3 : tie.Need-returns-3
-unfolding openingPack openFaults
+unfolding openingPack openFaults reading
 returns-3 c =
     let b = c .before in
     let k = b .before .before in
@@ -186,7 +180,11 @@ returns-3 c =
     let lent = s e .args .output .now in
     let fits : sampleCount (cipherIn (file e)) (file e) ≤ length lent = omega (arith, known e .samples) in
     ap₂ (λ (a : Opened) (d : List ℤ). outcome a d) (answered e)
-    (b .read-body .ensures
+    (b .read .ensures
+    ∙ sym (done-if _ _ _ (
+      omega (arith, known e .row),
+      (value-long v ∙ ap (λ (x : Kind). cipherOf x .valueBytes) (sym (kind-is k)), tt),
+    ))
     ∙ (λ i.
     put lent 0
     (wordsOf
@@ -211,4 +209,4 @@ open-spec =
     (λ c. omega (arith, size c, known (from-value c) .short, known (from-value c) .there))
     (λ c. omega (arith, size c, known (from-value c) .short, known (from-value c) .there))
     (λ c. omega (arith, known (from-value c) .most)) (λ c κs. search needs) (λ c κs. search needs)
-    read-body-requires (λ c. search needs) returns-3)
+    (λ c κs. search needs) (λ c. search needs) returns-3)

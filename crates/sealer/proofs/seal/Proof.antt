@@ -11,7 +11,7 @@ use Rattle.octets.specs.{Stream.Keystream, Stream.enciphered}
 use Rattle.octets.proofs.{Buffers.put-placed, Buffers.puts-on, Rows.length-row, Rows.length-equal}
 use Rattle.octets.proofs.{Slices.slice-front, Slices.slice-behind, Streams.length-enciphered, Streams.enciphered-twice}
 use Rattle.refusals.specs.{Numbers.accepted, Outcome.outcome, Rules.first}
-use Rattle.refusals.proofs.{Faults.none-wrong, Settled.settled-done, Settled.settled-left}
+use Rattle.refusals.proofs.{Faults.none-wrong, Settled.done-if, Settled.settled-done, Settled.settled-left}
 use Rattle.samples.specs.Words.{bytesOfAll}
 use Rattle.samples.proofs.Words.{length-bytes}
 use Rattle.pack.specs.{Calls.sealingPack, Faults.sealFaults, declared.Sealed.Sealed}
@@ -21,6 +21,7 @@ use Rattle.pack.specs.{Layout.tagWidths, Layout.associated, Layout.tagSection, 
 use Rattle.pack.specs.declared.Kind.the-variants.{Trivium, Enocoro, Triad}
 use Rattle.sealer.specs.Tags.{tagRow}
 use Rattle.pack.proofs.{LaidFiles.length-layout, Picking.short-value}
+use Rattle.bodies.specs.Bodies.{writing}
 use Rattle.sealer.proofs.seal.Statement.{statement}
 use Rattle.sealer.proofs.seal.Tie as tie
 
@@ -70,23 +71,19 @@ returns c = settled-left _ _ _ _ (c .if1 .taken) (found (c .before))
 abbrev passed : tie.After-write-front → tie.Else1
 passed c = c .before .before
 
-abbrev front : tie.After-write-body → tie.After-write-front
+abbrev front : tie.After-write → tie.After-write-front
 front c = c .before .before .before .before
 
-abbrev body-of : tie.After-write-loops → tie.After-write-body
+abbrev body-of : tie.After-write-loops → tie.After-write
 body-of c = c .before .before .before .before
 
 write-front-requires : tie.Need-write-front-requires
 write-front-requires c κs = omega (arith, known (c .before))
 
-write-body-requires : tie.Need-write-body-requires
-write-body-requires c κs =
-    let k = known (passed (c .before .before .before)) in (omega (arith, k), k .1)
-
 write-loops-requires : tie.Need-write-loops-requires
 write-loops-requires c κs =
     let w = c .before .before .before in
-    omega (arith, known (passed (front w)), w .write-body .kept .1 .1 .1 .1 .1 .1 .1 .0, front w .write-front .kept .0)
+    omega (arith, known (passed (front w)), w .write .kept .1 .1 .1 .1 .1 .1 .1 .0, front w .write-front .kept .0)
 
 write-end-requires : tie.Need-write-end-requires
 write-end-requires c κs =
@@ -101,7 +98,7 @@ write-end-requires c κs =
         arith,
         k,
         l .write-loops .kept .0,
-        w .write-body .kept .1 .1 .1 .1 .1 .1 .1 .0,
+        w .write .kept .1 .1 .1 .1 .1 .1 .1 .0,
         front w .write-front .kept .0,
       ),
     )
@@ -246,7 +243,7 @@ abbrev lent-to : tie.After-tag-length → tie.Else1
 lent-to c = passed (front (body-of (c .before .before .before .before .before .before .before)))
 
 returns-2 : tie.Need-returns-2
-unfolding sealingPack
+unfolding sealingPack writing
 returns-2 c =
     let w = c .before .before .before in
     let l = w .before .before .before .before in
@@ -260,7 +257,7 @@ returns-2 c =
     (nameSection p ++ ((suc n ∷ p .keyNumber ∷ p .value) ++ row (fours 1) (length (p .samples) ∷ [])))) (k .1) in
     let three = written (cipher s) (ring s) p (a .output .now) (omega (arith, k)) (front b .write-front .ensures
     ∙ headed)
-    (b .write-body .ensures) (l .write-loops .ensures) in
+    (b .write .ensures ∙ sym (done-if _ _ _ (k .3, (k .1, tt)))) (l .write-loops .ensures) in
     ap₂ (λ (n : ℕ) (d : List ℕ). outcome {A = Sealed} (record { refusal = accepted; length = n }) d)
     (omega (arith, length-layout (cipher s) (ring s) p, c .tag-length .ensures))
     (finished (cipher s) (ring s) p (a .output .now) _ (omega (arith, k)) three (omega (arith, k))
@@ -274,6 +271,6 @@ seal-spec =
     tie.close
     (tie.spec (λ c κs. search needs) returns (λ c. omega (arith, known c)) (λ c. omega (arith, known c))
     (λ c. search needs) (λ c. omega (arith, known c)) (λ c. omega (arith, known c)) (λ c. search needs)
-    (λ c. omega (arith, known c)) write-front-requires write-body-requires write-loops-requires write-end-requires
+    (λ c. omega (arith, known c)) write-front-requires (λ c κs. tt) write-loops-requires write-end-requires
     (λ c κs. search needs) (λ c. omega (arith, known (lent-to c), c .tag-length .ensures))
     (λ c. search needs) returns-2)
