@@ -213,10 +213,10 @@ impl Running {
             × (now (bytes .exit) ≡ put (now (bytes .entry)) at
             (enciphered (keystream (state (self .registers))) (slice (now (bytes .entry)) at 16))) ⌝ }
     {
-        let one = self.stride();
-        let two = one.next.stride();
         let first = samples::eight_from(bytes, at);
         let second = samples::eight_from(bytes, at + 8);
+        let one = self.stride();
+        let two = one.next.stride();
         octet_writer::write_low(bytes, at, first ^ samples::swapped(one.word));
         octet_writer::write_low(bytes, at + 8, second ^ samples::swapped(two.word));
         two.next

@@ -20,13 +20,14 @@ returns c =
     let turn2 = put2 .before in
     let put1 = turn2 .before .before .before .before in
     let turn1 = put1 .before in
-    let read2 = turn1 .before .before in
-    let read1 = read2 .before .before in
-    let stride2 = read1 .before .before in
+    let stride2 = turn1 .before .before in
     let stride1 = stride2 .before in
-    let p = stride1 .before .before .args in
+    let read2 = stride1 .before in
+    let read1 = read2 .before .before in
+    let known = read1 .before .before in
+    let p = known .before .args in
     let bytes : List ℕ = p .bytes .now in
-    let below : Below 256 bytes = λ i. omega (arith, stride1 .before .slice-known .given i) in
+    let below : Below 256 bytes = λ i. omega (arith, known .slice-known .given i) in
     let one : Ran = stride1 .stride .result in
     let two : Ran = stride2 .stride2 .result in
     let ran1 = stride1 .stride .ensures in
@@ -55,5 +56,5 @@ returns c =
 pub cover-sixteen-spec : {M : Type 1} → statement M
 cover-sixteen-spec =
     tie.close
-    (tie.spec (λ c κs. tt) (λ c κs. tt) (λ c κs. tt) (λ c. omega arith) (λ c κs. tt) (λ c κs. tt)
+    (tie.spec (λ c κs. tt) (λ c. omega arith) (λ c κs. tt) (λ c κs. tt) (λ c κs. tt) (λ c κs. tt)
     (λ c κs. tt) (λ c. omega arith) (λ c κs. tt) (λ c κs. tt) (λ c. search needs) returns)
