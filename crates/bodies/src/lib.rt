@@ -64,16 +64,16 @@ fn begun(
     let row = number as usize;
     match kind {
         Kind::Trivium => {
-            let key = ring[row];
-            trivium_begun(&key, value)
+            let trivium_key = ring[row];
+            trivium_begun(&trivium_key, value)
         }
         Kind::Enocoro => {
-            let key = second[row];
-            enocoro_begun(&key, value)
+            let enocoro_key = second[row];
+            enocoro_begun(&enocoro_key, value)
         }
         Kind::Triad => {
-            let key = third[row];
-            triad_begun(&key, value)
+            let triad_key = third[row];
+            triad_begun(&triad_key, value)
         }
     }
 }

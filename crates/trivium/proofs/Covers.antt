@@ -23,18 +23,20 @@ behind d at run n e room =
     ∙ drop-at (take at d ++ run) (drop (at + length run) d) (at + n) (simp (length-append, length-take) (omega arith))
     ∙ ap (λ (k : ℕ). drop (at + k) d) e
 
--- so many bytes enciphered, and then everything behind them
-pub further : (s mid : State) (bytes left : List ℕ) (at size : ℕ) → at + size ≤ length bytes → mid ≡ steps (8 * size) s
-    → left ≡ put bytes at (enciphered (keystream s) (slice bytes at size))
-    → covered mid left (at + size) ≡ covered s bytes at
-further s mid bytes left at size room on done =
+-- so many bytes enciphered, and then everything behind them; `next` is where the code goes on
+pub further : (s mid : State) (bytes left : List ℕ) (at size : ℕ) {next : ℕ} → at + size ≤ length bytes
+    → mid ≡ steps (8 * size) s
+    → left ≡ put bytes at (enciphered (keystream s) (slice bytes at size)) → next ≡ at + size
+    → covered mid left next ≡ covered s bytes at
+further s mid bytes left at size room on done there =
     let xs : List ℕ = slice bytes at size in
     let ys : List ℕ = drop (at + size) bytes in
     let front : length xs ≡ size = length-slice bytes at size room in
     let long = length-run (keystream s) bytes at size room in
     let same = length-enciphered (keystream mid) ys in
     let count = length-drop (at + size) bytes in
-    ap (λ (l : List ℕ). put left (at + size) (enciphered (keystream mid) l))
+    ap (covered mid left) there
+    ∙ ap (λ (l : List ℕ). put left (at + size) (enciphered (keystream mid) l))
     (ap (drop (at + size)) done ∙ behind bytes at (enciphered (keystream s) xs) size long room)
     ∙ read-on (λ l. l) (keystream s) xs ys bytes at (λ us vs e. refl)
     (gone s (length xs) (on ∙ ap (λ (n : ℕ). steps (8 * n) s) (sym front))) done

@@ -19,18 +19,20 @@ returns c =
     put-none (p .output .now) 0 (wordsOf (p .bytes .now)) (rw (length-twos wordOf (p .bytes .now)) (omega arith))
 
 -- all of the words, taken to the front and turned there
-turned-there : (output : List ℤ) (bytes : List ℕ) (n : ℕ) {taken last : List ℤ} → taken ≡ put output 0 (unturned bytes)
-    → last ≡ put taken 0 (turnedFront n taken)
-    → length bytes / 2 ≡ n → n ≤ length output → Below 256 bytes → last ≡ put output 0 (wordsOf bytes)
+turned-there : (output : List ℤ) (bytes : List ℕ) (n : ℕ) {taken last : List ℤ} {m : ℕ}
+    → taken ≡ put output 0 (unturned bytes)
+    → last ≡ put taken 0 (turnedFront m taken)
+    → m ≡ n → length bytes / 2 ≡ n → n ≤ length output → Below 256 bytes → last ≡ put output 0 (wordsOf bytes)
 unfolding turnedFront
-turned-there output bytes n {taken} e f long room below =
+turned-there output bytes n {taken} e f all long room below =
     let run : List ℤ = unturned bytes in
     let many : length run ≡ n = length-twos lowFirst bytes ∙ long in
     let front : take n taken ≡ run =
     ap (take n) (e ∙ put-placed output 0 run (omega arith)) ∙ ap (λ (m : ℕ). take m (placed output 0 run)) (sym many)
     ∙ take-placed output run (omega arith) in
     let same : length (map turned run) ≡ n = length-map run turned ∙ many in
-    f ∙ ap (λ (l : List ℤ). put taken 0 (map turned l)) front
+    f ∙ ap (λ (k : ℕ). put taken 0 (turnedFront k taken)) all
+    ∙ ap (λ (l : List ℤ). put taken 0 (map turned l)) front
     ∙ ap (λ (l : List ℤ). put l 0 (map turned run)) e
     ∙ put-over output 0 run (map turned run) (omega arith) (omega arith)
     ∙ ap (put output 0) (turned-samples bytes below)
@@ -42,7 +44,7 @@ returns-2 c =
     let known = taken .before .before .before in
     let p = known .before .args in
     turned-there (p .output .now) (p .bytes .now) (length (p .bytes .now) / 2) (taken .take-words .ensures)
-    (turn .turn .ensures) (omega arith) (omega arith) (λ i. omega (arith, known .shared-slice-known .given i))
+    (turn .turn .ensures) (omega arith) (omega arith) (omega arith) (λ i. omega (arith, known .shared-slice-known .given i))
 
 pub read-words-spec : {M : Type 1} → statement M
 read-words-spec = tie.close (tie.spec returns (λ c κs. search needs) (λ c κs. search needs) (λ c. search needs) returns-2)

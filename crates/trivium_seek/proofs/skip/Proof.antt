@@ -7,6 +7,10 @@ use Rattle.trivium.proofs.Steps.{few-strode, skip-add}
 use Rattle.trivium_seek.proofs.skip.Statement.{statement}
 use Rattle.trivium_seek.proofs.skip.Tie as tie
 
+-- passed over so many bytes; `m` is how many the code says
+passed-over : (r : Registers) (n m : ℕ) {there : Registers} → there ≡ skipping r m → m ≡ n → there ≡ skipping r n
+passed-over r n m e same = e ∙ ap (skipping r) same
+
 returns : tie.Need-returns
 unfolding skipping
 returns c =
@@ -19,7 +23,7 @@ returns c =
     let all : eights + few ≡ p .bytes = omega arith in
     let last = c .before .short-stride .ensures ∙ few-strode there few (omega arith) (omega arith) in
     (λ i. last i .next)
-    ∙ ap (λ (q : Registers). skipping q few) (passed .pass .ensures)
+    ∙ ap (λ (q : Registers). skipping q few) (passed-over r eights _ (passed .pass .ensures) (omega arith))
     ∙ skip-add r eights few
     ∙ ap (skipping r) all
 

@@ -9,7 +9,7 @@ use Rattle.refusals.specs.Outcome.{outcome}
 use Rattle.taps.specs.Keystream.{keystream}
 use Rattle.trivium.specs.{Calls.skipping, Calls.covering, Calls.runningFrom, Record.state}
 use Rattle.trivium.specs.{declared.Registers.Registers, declared.Running.Running}
-use Rattle.trivium.proofs.{Covers.covered, Covers.further, Steps.skip-from}
+use Rattle.trivium.proofs.{Covers.covered, Covers.further, Steps.skips-on}
 use Rattle.trivium.proofs.Registers.cover.Statement.{statement}
 use Rattle.trivium.proofs.Registers.cover.Tie as tie
 
@@ -44,8 +44,9 @@ loop-again c =
     let all : 16 + rest ≡ n - l .at = omega arith in (
       omega arith,
       call .kept .1 .0 ∙ l .inv .1,
-      skip-from old new 16 rest (call .ensures .0) ∙ ap (skipping old) all ∙ l .inv .2,
+      skips-on old new 16 rest (call .ensures .0) refl (omega arith) ∙ ap (skipping old) all ∙ l .inv .2,
       further (state old) (state new) (l .bytes) _ (l .at) 16 (omega arith) (call .ensures .0) (call .ensures .1)
+          (omega arith)
           ∙ l .inv .3,
     )
 

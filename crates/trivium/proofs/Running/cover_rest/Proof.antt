@@ -25,6 +25,12 @@ Inv-loop bytes₀ at end registers₀ left₀ bytes registers left =
 abbrev μ-loop : tie.MeasureT-loop
 μ-loop bytes₀ at end registers₀ left₀ bytes registers left = left
 
+-- bytes that were covered from a place on; `at` is the place that the code names
+from-place : (bytes : List ℕ) (place n word : ℕ) {at : ℕ} {left : List ℕ}
+    → left ≡ put bytes at (under bytes at n word) → at ≡ place
+    → left ≡ put bytes place (under bytes place n word)
+from-place bytes place n word e same = e ∙ ap (λ (p : ℕ). put bytes p (under bytes p n word)) same
+
 loop-holds : tie.Need-loop-holds Inv-loop μ-loop
 unfolding stopping
 loop-holds c =
@@ -57,7 +63,7 @@ loop-again c =
     let gone : state mid ≡ steps (8 * n) (state old) = (λ i. state (went i .next)) ∙ state-skip old n in
     let there : place + n ≤ length (l .bytes) = omega arith in
     let written =
-    done .cover .ensures
+    from-place (l .bytes) place n _ (done .cover .ensures) (omega arith)
     ∙ ap (λ (w : ℕ). put (l .bytes) place (under (l .bytes) place n w)) (λ i. went i .word)
     ∙ ap (put (l .bytes) place) (run-read (l .bytes) place n (state old) few there (l .inv .2)) in (
       omega (arith, took .at-most-eight .ensures),
@@ -65,9 +71,7 @@ loop-again c =
       (λ i. omega (arith, c .before .slice-known2 .given i)),
       (λ i. went i .next) ∙ ap packed (sym gone),
       skip-from old mid n rest gone ∙ ap (skipping old) all ∙ l .inv .4,
-      ap (covered (state mid) (done .cover .last .0)) on
-          ∙ further (state old) (state mid) (l .bytes) (done .cover .last .0) place n there gone written
-          ∙ l .inv .5,
+      further (state old) (state mid) (l .bytes) (done .cover .last .0) place n there gone written on ∙ l .inv .5,
     )
 
 returns : tie.Need-returns Inv-loop μ-loop
