@@ -4,8 +4,7 @@ ghost use lib.ListN.{length};
 ghost use Rattle.octets.specs.Digits.{numberAt, word};
 ghost use Rattle.refusals.specs.Outcome.{outcome};
 ghost use Rattle.sbox.specs.S8.{printed};
-ghost use Rattle.enocoro.specs.Calls.{refusedMaking, loading, makingCipher, rounding, warming};
-ghost use Rattle.enocoro.specs.Calls.{skipping, covering, enciphering};
+ghost use Rattle.enocoro.specs.Calls.{refusedMaking, loading, makingCipher, warming, covering};
 ghost use Rattle.enocoro.specs.Record.{state, packed};
 ghost use Rattle.enocoro.specs.State.{next};
 ghost use Rattle.enocoro.specs.Window.{mixing, windowed};
@@ -252,50 +251,5 @@ impl Registers {
             at += size;
         }
         registers
-    }
-
-    // One byte and one round.
-    pub fn round(self) -> Rounded
-        ensures { λ r. ⌜ r ≡ rounding self ⌝ }
-    {
-        let mut covered: [u8; 1] = [0];
-        let byte = self.a1;
-        let next = self.cover(&mut covered);
-        Rounded { byte, next }
-    }
-
-    // The registers after so many bytes of keystream that nobody takes: they go over bytes that nobody reads.
-    pub fn skip(self, bytes: usize) -> Registers
-        ensures { λ r. ⌜ r ≡ skipping self bytes ⌝ }
-    {
-        let mut registers = self;
-        let mut left = bytes;
-        while 0 < left {
-            let mut covered = blank_window();
-            let size = stretch(left);
-            registers = registers.cover(&mut covered[0..size]);
-            left -= size;
-        }
-        registers
-    }
-
-    // The input under the keystream, to the front of the output: it is copied, and enciphered there.
-    pub fn encipher(self, input: &[u8], output: &mut [u8]) -> Enciphered
-        ensures { λ r. ⌜ outcome r (now (output .exit))
-            ≡ enciphering self (now (input .entry)) (now (output .entry)) ⌝ }
-    {
-        let n = input.len();
-        if output.len() < n {
-            return Enciphered {
-                refusal: refusals::NO_ROOM,
-                next: self,
-            };
-        }
-        octet_writer::copy(output, 0, input);
-        let next = self.cover(&mut output[0..n]);
-        Enciphered {
-            refusal: refusals::ACCEPTED,
-            next,
-        }
     }
 }

@@ -77,7 +77,7 @@ pub fn encipher(cipher: &mut [u8], input: &[u8], output: &mut [u8]) -> u8
         return refusals::NOT_A_CIPHER;
     }
     let registers = cipher_in(cipher);
-    let done = registers.encipher(input, output);
+    let done = enocoro_runs::encipher(registers, input, output);
     let refusal = done.refusal;
     if refusal != refusals::ACCEPTED {
         return refusal;

@@ -55,20 +55,17 @@ pub fn write_number(d: &mut [u8], at: usize, n: usize, value: u64)
 pub fn write_low(d: &mut [u8], at: usize, word: u64)
     ensures { λ _. ⌜ now (d .exit) ≡ put (now (d .entry)) at (digits 256 8 (swapped word)) ⌝ }
 {
-    if d.len() < at {
-        return;
-    }
-    if d.len() - at < 8 {
-        return;
-    }
-    d[at] = (word % 256) as u8;
-    d[at + 1] = ((word >> 8) % 256) as u8;
-    d[at + 2] = ((word >> 16) % 256) as u8;
-    d[at + 3] = ((word >> 24) % 256) as u8;
-    d[at + 4] = ((word >> 32) % 256) as u8;
-    d[at + 5] = ((word >> 40) % 256) as u8;
-    d[at + 6] = ((word >> 48) % 256) as u8;
-    d[at + 7] = ((word >> 56) % 256) as u8;
+    let bytes = [
+        (word % 256) as u8,
+        ((word >> 8) % 256) as u8,
+        ((word >> 16) % 256) as u8,
+        ((word >> 24) % 256) as u8,
+        ((word >> 32) % 256) as u8,
+        ((word >> 40) % 256) as u8,
+        ((word >> 48) % 256) as u8,
+        ((word >> 56) % 256) as u8,
+    ];
+    copy(d, at, &bytes);
 }
 
 // n bytes from `at` under the last n of a word of keystream, where they stand: read and written as one number.

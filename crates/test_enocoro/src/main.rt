@@ -62,13 +62,13 @@ fn blank(from: Registers, counter: u8) -> Registers {
         b2: from.b2,
         b3: b3 ^ (counter as u64),
     };
-    let rounded = counted.round();
+    let rounded = enocoro_runs::round(counted);
     rounded.next
 }
 
 // One round, with its byte.
 fn once(from: Registers) -> Registers {
-    let rounded = from.round();
+    let rounded = enocoro_runs::round(from);
     io::write_all(1, b" ");
     io::print_hex(1, rounded.byte as u64, 2);
     rounded.next
@@ -80,8 +80,8 @@ fn same(x: Registers, y: Registers) -> bool {
 
 fn skips_agree(from: Registers, input: &[u8], bytes: usize) -> bool {
     let mut output = untouched();
-    let skipped = from.skip(bytes);
-    let enciphered = from.encipher(input, &mut output);
+    let skipped = enocoro_runs::skip(from, bytes);
+    let enciphered = enocoro_runs::encipher(from, input, &mut output);
     same(skipped, enciphered.next)
 }
 
@@ -117,7 +117,7 @@ fn show_output(output: &[u8; 48], room: usize) {
 fn encipher(from: Registers, input: &[u8], output_bytes: usize) -> Registers {
     let mut output = untouched();
     let room = output_bytes % 49;
-    let enciphered = from.encipher(input, &mut output[0..room]);
+    let enciphered = enocoro_runs::encipher(from, input, &mut output[0..room]);
     test_kit::print_number(b" ", enciphered.refusal as u64);
     show_output(&output, room);
     enciphered.next
@@ -136,7 +136,7 @@ fn try_case(kept: Registers, letter: u8, bytes: &[u8], n: usize, count: usize) {
             ));
         }
         _ => {
-            show(kept.skip(n));
+            show(enocoro_runs::skip(kept, n));
             differ(kept, bytes, n, count);
         }
     }
@@ -151,7 +151,7 @@ fn run(kept: Registers, letter: u8, bytes: &[u8], n: usize, count: usize) -> Reg
         b'm' => show_made(Registers::new(first, rest)),
         b'b' => blank(kept, (n % 256) as u8),
         b'o' => once(kept),
-        b'j' => kept.skip(n),
+        b'j' => enocoro_runs::skip(kept, n),
         _ => {
             try_case(kept, letter, bytes, n, count);
             return kept;
