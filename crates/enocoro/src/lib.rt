@@ -187,10 +187,10 @@ impl Registers {
         ensures { λ r. ⌜ (length r ≡ 288) × (windowed r 256 (self .a0) (self .a1) ≡ state self) ⌝ }
     {
         let mut w = blank_window();
-        octet_writer::write_number(&mut w, 256, 8, self.b0);
-        octet_writer::write_number(&mut w, 264, 8, self.b1);
-        octet_writer::write_number(&mut w, 272, 8, self.b2);
-        octet_writer::write_number(&mut w, 280, 8, self.b3);
+        octet_writer::write_word(&mut w, 256, self.b0);
+        octet_writer::write_word(&mut w, 264, self.b1);
+        octet_writer::write_word(&mut w, 272, self.b2);
+        octet_writer::write_word(&mut w, 280, self.b3);
         w
     }
 

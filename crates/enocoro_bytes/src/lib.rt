@@ -47,10 +47,10 @@ fn write_cipher(d: &mut [u8], cipher: Registers)
     }
     octet_writer::write_number(d, 0, 1, a0 as u64);
     octet_writer::write_number(d, 1, 1, a1 as u64);
-    octet_writer::write_number(d, 2, 8, b0);
-    octet_writer::write_number(d, 10, 8, b1);
-    octet_writer::write_number(d, 18, 8, b2);
-    octet_writer::write_number(d, 26, 8, b3);
+    octet_writer::write_word(d, 2, b0);
+    octet_writer::write_word(d, 10, b1);
+    octet_writer::write_word(d, 18, b2);
+    octet_writer::write_word(d, 26, b3);
 }
 
 pub fn make(cipher: &mut [u8], key: &[u8], value: &[u8]) -> u8

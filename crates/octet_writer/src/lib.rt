@@ -68,6 +68,14 @@ pub fn write_low(d: &mut [u8], at: usize, word: u64)
     copy(d, at, &bytes);
 }
 
+// Writes a word's eight bytes from `at`, the most significant first, if they have room there: one store, where eight bytes
+// of a number are eight.
+pub fn write_word(d: &mut [u8], at: usize, word: u64)
+    ensures { λ _. ⌜ now (d .exit) ≡ put (now (d .entry)) at (digits 256 8 word) ⌝ }
+{
+    write_low(d, at, samples::swapped(word));
+}
+
 // n bytes from `at` under the last n of a word of keystream, where they stand: read and written as one number.
 pub fn cover(bytes: &mut [u8], at: usize, n: usize, stream: u64)
     ensures { λ _. ⌜ now (bytes .exit)

@@ -104,12 +104,12 @@ pub fn write_six_words(d: &mut [u8], words: SixWords)
     if d.len() < SIX_WORDS_BYTES {
         return;
     }
-    octet_writer::write_number(d, 0, 8, a1);
-    octet_writer::write_number(d, 8, 8, a0);
-    octet_writer::write_number(d, 16, 8, b1);
-    octet_writer::write_number(d, 24, 8, b0);
-    octet_writer::write_number(d, 32, 8, c1);
-    octet_writer::write_number(d, 40, 8, c0);
+    octet_writer::write_word(d, 0, a1);
+    octet_writer::write_word(d, 8, a0);
+    octet_writer::write_word(d, 16, b1);
+    octet_writer::write_word(d, 24, b0);
+    octet_writer::write_word(d, 32, c1);
+    octet_writer::write_word(d, 40, c0);
 }
 
 // Numbers for a caller, at the front of a run, if they have room there.

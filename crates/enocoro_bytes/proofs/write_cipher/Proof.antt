@@ -26,10 +26,10 @@ returns-2 c =
     let one = two .before .before .before .before in
     let p = one .before .before .before .before .args in
     let r = p .cipher in
-    then-written 26 8 (r .b3) (six .write-number6 .ensures)
-    (then-written 18 8 (r .b2) (five .write-number5 .ensures)
-    (then-written 10 8 (r .b1) (four .write-number4 .ensures)
-    (then-written 2 8 (r .b0) (three .write-number3 .ensures)
+    then-written 26 8 (r .b3) (six .write-word4 .ensures)
+    (then-written 18 8 (r .b2) (five .write-word3 .ensures)
+    (then-written 10 8 (r .b1) (four .write-word2 .ensures)
+    (then-written 2 8 (r .b0) (three .write-word .ensures)
     (then-written 1 1 (r .a1) (two .write-number2 .ensures)
     (then-written 0 1 (r .a0) (one .write-number .ensures) refl (omega arith) (omega arith) (omega arith))
     (omega arith) (omega arith) (omega arith))

@@ -31,12 +31,12 @@ returns-2 c =
     let one = two .before .before .before .before in
     let p = one .before .before .before .before .args in
     let r = p .words in
-    six .write-number6 .ensures
-    ∙ ap (then 40 (r .c0)) (five .write-number5 .ensures
-    ∙ ap (then 32 (r .c1)) (four .write-number4 .ensures
-    ∙ ap (then 24 (r .b0)) (three .write-number3 .ensures
-    ∙ ap (then 16 (r .b1)) (two .write-number2 .ensures
-    ∙ ap (then 8 (r .a0)) (one .write-number .ensures)))))
+    six .write-word6 .ensures
+    ∙ ap (then 40 (r .c0)) (five .write-word5 .ensures
+    ∙ ap (then 32 (r .c1)) (four .write-word4 .ensures
+    ∙ ap (then 24 (r .b0)) (three .write-word3 .ensures
+    ∙ ap (then 16 (r .b1)) (two .write-word2 .ensures
+    ∙ ap (then 8 (r .a0)) (one .write-word .ensures)))))
     ∙ row-written (p .d .now) sixWidths (sixNumbers r) 0 (omega arith)
 
 pub write-six-words-spec : {M : Type 1} → statement M

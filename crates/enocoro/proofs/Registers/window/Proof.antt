@@ -14,8 +14,8 @@ returns c =
     let p = blank .before .args in
     laid (p .self) (blank .blank-window .result) (blank .blank-window .ensures) (omega (arith, blank .before .good))
     (omega (arith, blank .before .good))
-    (first .write-number .ensures) (second .write-number2 .ensures) (third .write-number3 .ensures)
-    (fourth .write-number4 .ensures) (omega arith) (omega arith) (omega arith) (omega arith)
+    (first .write-word .ensures) (second .write-word2 .ensures) (third .write-word3 .ensures)
+    (fourth .write-word4 .ensures) (omega arith) (omega arith) (omega arith) (omega arith)
 
 pub window-spec : {M : Type 1} → statement M
 window-spec =
