@@ -208,6 +208,18 @@ static void check_own_pack(struct pack *pack)
     }
 }
 
+/* Opened as stereo, it has the samples that were sealed, each divided by 32,768. */
+static void check_frames(struct pack *pack)
+{
+    struct work open = library_open_stereo(pack);
+    memset(frames, 0xff, sizeof frames);
+    open.once(open.with);
+    for (size_t at = 0; at < pack->sample_count; at++) {
+        const float divided = (float)samples[at] / 32768;
+        same(&frames[at], &divided, sizeof divided, "a pack opened as stereo has other floats than its samples");
+    }
+}
+
 static void check_pack(const struct cipher *cipher, size_t sample_bytes)
 {
     struct pack *pack = pack_of(cipher, sample_bytes);
@@ -221,6 +233,7 @@ static void check_pack(const struct cipher *cipher, size_t sample_bytes)
     memset(opened, 0, sizeof opened);
     open.once(open.with);
     same(opened, samples, sample_bytes, "an opened pack's samples are not those that were sealed");
+    check_frames(pack);
     if (cipher->tag != NULL)
         check_own_pack(pack);
 }

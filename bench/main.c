@@ -23,6 +23,7 @@ static const char MAKE_AND_ENCIPHER[] = "make a cipher and encipher 32,768 bytes
 static const char TAG[] = "tag 32,768 bytes";
 static const char ENCIPHER_AND_TAG[] = "make, encipher and tag 32,768 bytes";
 static const char OPEN[] = "open a pack of 16,384 samples";
+static const char OPEN_STEREO[] = "open a pack as 8,192 stereo frames";
 static const char SEAL[] = "seal a pack of 16,384 samples";
 
 /* An aim is judged by the figure as it is printed, with the aim's two places. */
@@ -102,6 +103,7 @@ static void cipher_rows(const struct cipher *cipher)
         pack_rows(cipher, OPEN, library_open(longest));
         pack_rows(cipher, SEAL, library_seal(longest));
     }
+    row(cipher, OPEN_STEREO, OPEN, compare(library_open_stereo(longest), library_open(longest)), NO_AIM);
     row(cipher, "make a cipher", ENCIPHER, compare(library_make(&made), library_encipher(&bare)), NO_AIM);
 }
 

@@ -13,6 +13,7 @@ enum { ASSOCIATED_BYTES = SEMIVRAKH_PACK_MOST - BYTES - 1 - SEMIVRAKH_TAG_BYTES 
 
 static uint8_t input[BYTES], output[BYTES], file[SEMIVRAKH_PACK_MOST], record[SEMIVRAKH_CIPHER_BYTES];
 static int16_t samples[SEMIVRAKH_SAMPLES_MOST];
+static float frames[SEMIVRAKH_SAMPLES_MOST];
 static const uint8_t keys[SEMIVRAKH_KEYS_BYTES], value[SEMIVRAKH_TRIAD_NONCE_BYTES], associated[ASSOCIATED_BYTES];
 
 static const struct cipher {
@@ -61,11 +62,18 @@ static uint8_t open_pack(size_t length) {
                                SEMIVRAKH_OPENED_NUMBERS);
 }
 
+static uint8_t open_stereo(size_t length) {
+    size_t answer[SEMIVRAKH_OPENED_NUMBERS];
+    return semivrakh_pack_open_stereo(file, length, keys, sizeof keys, frames, SEMIVRAKH_SAMPLES_MOST, answer,
+                                      SEMIVRAKH_OPENED_NUMBERS);
+}
+
 static uint8_t call(const struct cipher *cipher, const char *what, size_t length) {
     if (strcmp(what, "make") == 0) return make(cipher);
     if (strcmp(what, "encipher") == 0) return encipher(cipher);
     if (strcmp(what, "tag") == 0 && cipher->number == SEMIVRAKH_TRIAD) return tag();
     if (strcmp(what, "open") == 0) return open_pack(length);
+    if (strcmp(what, "stereo") == 0) return open_stereo(length);
     if (strcmp(what, "seal") == 0) return seal(cipher, &length);
     return strcmp(what, "none") == 0 ? SEMIVRAKH_OK : NO_SUCH_CALL;
 }

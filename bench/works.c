@@ -11,6 +11,7 @@ uint8_t plain[LARGEST_BYTES];
 uint8_t sealed[LARGEST_BYTES];
 int16_t samples[SEMIVRAKH_SAMPLES_MOST];
 int16_t opened[SEMIVRAKH_SAMPLES_MOST];
+float frames[SEMIVRAKH_SAMPLES_MOST];
 struct line line;
 
 static struct pack packs[CIPHERS][PACK_SIZES];
@@ -80,6 +81,14 @@ static void open_once(void *with)
     size_t answer[SEMIVRAKH_OPENED_NUMBERS];
     accepted(semivrakh_pack_open(pack->file, pack->length, keys, sizeof keys, opened, SEMIVRAKH_SAMPLES_MOST,
                                  answer, SEMIVRAKH_OPENED_NUMBERS));
+}
+
+static void open_stereo_once(void *with)
+{
+    const struct pack *pack = with;
+    size_t answer[SEMIVRAKH_OPENED_NUMBERS];
+    accepted(semivrakh_pack_open_stereo(pack->file, pack->length, keys, sizeof keys, frames, SEMIVRAKH_SAMPLES_MOST,
+                                        answer, SEMIVRAKH_OPENED_NUMBERS));
 }
 
 static void seal_once(void *with)
@@ -194,6 +203,8 @@ struct work library_tag(struct stream *stream) { return (struct work){ tag_once,
 struct work library_encipher_and_tag(struct stream *stream) { return (struct work){ encipher_and_tag_once, stream }; }
 
 struct work library_open(struct pack *pack) { return (struct work){ open_once, pack }; }
+
+struct work library_open_stereo(struct pack *pack) { return (struct work){ open_stereo_once, pack }; }
 
 struct work library_seal(struct pack *pack) { return (struct work){ seal_once, pack }; }
 

@@ -29,6 +29,7 @@ extern uint8_t plain[LARGEST_BYTES];
 extern uint8_t sealed[LARGEST_BYTES];
 extern int16_t samples[SEMIVRAKH_SAMPLES_MOST]; /* the front of `plain` as sound */
 extern int16_t opened[SEMIVRAKH_SAMPLES_MOST];
+extern float frames[SEMIVRAKH_SAMPLES_MOST]; /* of two floats each, so half as many */
 
 /* So many bytes at a time under one cipher. Library and own C each go on in a stream of their own from call to call; a
  * tag is of all of them anew. */
@@ -80,6 +81,7 @@ struct work library_make_and_encipher(struct stream *stream);
 struct work library_tag(struct stream *stream);
 struct work library_encipher_and_tag(struct stream *stream); /* from key and nonce on: all of an authenticated cipher */
 struct work library_open(struct pack *pack);
+struct work library_open_stereo(struct pack *pack);
 struct work library_seal(struct pack *pack);
 struct work library_transfer(void);
 struct work own_encipher_work(struct stream *stream);

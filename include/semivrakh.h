@@ -106,8 +106,8 @@
 extern "C" {
 #endif
 
-/* The version of this header, 0.7.0: ten thousand times its first number, a hundred times its second, and its third. */
-#define SEMIVRAKH_VERSION 700
+/* The version of this header, 0.8.0: ten thousand times its first number, a hundred times its second, and its third. */
+#define SEMIVRAKH_VERSION 800
 
 /* The numbers for no. */
 enum {
@@ -137,6 +137,7 @@ enum {
     SEMIVRAKH_CUT_IN_SAMPLES = 32, /* file ends inside its sample section */
     SEMIVRAKH_CUT_IN_LOOPS = 33,   /* file ends inside its loop section */
     SEMIVRAKH_LOWEST_SAMPLE = 34,  /* sealing: a sample is -32,768, which has no opposite */
+    SEMIVRAKH_ODD_SAMPLES = 35,    /* opening as stereo: the sample count is odd */
     SEMIVRAKH_OTHER_LENGTH = 36,   /* receiver: opening of its own session with another length */
     SEMIVRAKH_WRONG_TAG = 38,      /* opening: the tag isn't that of the file under its key */
     SEMIVRAKH_CUT_IN_TAG = 45      /* file ends inside its tag section, or that section's count isn't 8 */
@@ -178,7 +179,8 @@ enum {
     SEMIVRAKH_TRIAD = 13 /* the one whose packs have a tag */
 };
 
-/* What semivrakh_pack_open and semivrakh_pack_survey answer, by index. Places are indices into the file. */
+/* What semivrakh_pack_open, semivrakh_pack_open_stereo and semivrakh_pack_survey answer, by index. Places are indices
+ * into the file. */
 enum {
     SEMIVRAKH_OPENED_SAMPLES = 0,     /* sample count */
     SEMIVRAKH_OPENED_KEY = 1,         /* key number */
@@ -306,6 +308,29 @@ uint8_t semivrakh_pack_open(const uint8_t *file, size_t file_length,
                             const uint8_t *keys, size_t keys_length,
                             int16_t *samples, size_t sample_room,
                             size_t *answer, size_t answer_room);
+
+/*
+ * Opens a pack file as semivrakh_pack_open does, and writes its samples as stereo sound: frames of two 32-bit floats, a
+ * left and a right one, to the front of `frames`. Samples 0, 2, 4 and so on are left, samples 1, 3, 5 and so on right,
+ * so the floats stand in the order of the samples, and there are as many of them.
+ * The two calls agree: each float is exactly a sample of semivrakh_pack_open divided by 32,768, and the seven numbers
+ * in `answer` are the same. So floats are -32,767/32,768 to 32,767/32,768, zero is positive zero, and nothing is ever
+ * rounded. SEMIVRAKH_OPENED_SAMPLES counts samples: frames are half as many. Lend 16,384 floats, and any pack has room.
+ * A pack doesn't say whether it is mono or stereo: that is for the caller to know.
+ * Refuses, in order: 1 (keys not 168 bytes), what the file has wrong from front to back (11 to 18, 30 to 33 where it
+ * ends inside a section, 45 for the tag's, which is before 18), 38 (wrong tag), 35 (an odd count of samples), 19 (fewer
+ * floats lent than the pack has samples, or fewer than seven numbers).
+ *
+ *     float frames[SEMIVRAKH_SAMPLES_MOST];
+ *     size_t answer[SEMIVRAKH_OPENED_NUMBERS];
+ *     uint8_t no = semivrakh_pack_open_stereo(file, file_length, keys, SEMIVRAKH_KEYS_BYTES,
+ *                                             frames, SEMIVRAKH_SAMPLES_MOST, answer, SEMIVRAKH_OPENED_NUMBERS);
+ *     if (no == 0) play_stereo(frames, answer[SEMIVRAKH_OPENED_SAMPLES] / 2);
+ */
+uint8_t semivrakh_pack_open_stereo(const uint8_t *file, size_t file_length,
+                                   const uint8_t *keys, size_t keys_length,
+                                   float *frames, size_t float_room,
+                                   size_t *answer, size_t answer_room);
 
 /*
  * What a pack file says of itself: the seven numbers that semivrakh_pack_open would answer, given room for the samples.

@@ -298,6 +298,26 @@ static void tag_shown(void) {
     holds(tag->label, memcmp(made, file->bytes + file->length - sizeof made, sizeof made) == 0);
 }
 
+static uint8_t open_stereo(const struct block *file, float *frames, size_t float_room) {
+    const struct block *keys = block("pack keys");
+    size_t answer[SEMIVRAKH_OPENED_NUMBERS];
+    return semivrakh_pack_open_stereo(file->bytes, file->length, keys->bytes, keys->length, frames, float_room, answer,
+                                      SEMIVRAKH_OPENED_NUMBERS);
+}
+
+/* The example's three samples are no frames. */
+static void odd_refused(const struct cipher *cipher) {
+    float frames[SAMPLES];
+    holds(cipher->file, open_stereo(block(cipher->file), frames, SAMPLES) == SEMIVRAKH_ODD_SAMPLES);
+}
+
+/* With a fourth they are two, and the paper has their floats as bytes, in the order in which they stand in memory. */
+static void frames_shown(void) {
+    float frames[SAMPLES + 1];
+    accepted("stereo file", open_stereo(block("stereo file"), frames, SAMPLES + 1));
+    same("stereo frames", (const uint8_t *)frames, sizeof frames);
+}
+
 /* A file of the example whose tag isn't its own: nobody can tell without keys. */
 static void tag_refused(void) {
     static const char label[] = "triad changed";
@@ -331,6 +351,7 @@ static void pack_under(const struct cipher *cipher) {
     covered(cipher->enciphered, cipher, key, value, words->bytes, words->length);
     pack_sealed(cipher->file, cipher, samples);
     pack_opened(cipher->file, cipher, samples);
+    odd_refused(cipher);
     pack_cut(cipher);
 }
 
@@ -347,6 +368,7 @@ static void pack(void) {
     tag_shown();
     tag_refused();
     lowest_word();
+    frames_shown();
     fronts_shown();
     no_cipher();
 }

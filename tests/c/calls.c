@@ -127,16 +127,30 @@ uint8_t compare_triad_tag(struct run key, struct run nonce, struct run associate
     return settle(TRIAD_TAG, numbers);
 }
 
+/* The two openings are lent the same but for the room of the sound. */
+static void lend_opening(struct run file, struct run keys, struct lending sound, struct run answer) {
+    lend_all((struct lending[]){to_read("file", file), to_read("keys", keys), sound,
+                                numbers_to_write("answer", answer)}, 4);
+}
+
 uint8_t compare_pack_open(struct run file, struct run keys, struct run samples, struct run answer) {
     uint8_t numbers[SIDES];
-    lend_all((struct lending[]){to_read("file", file), to_read("keys", keys),
-                                lend("samples", samples, sizeof(int16_t), true),
-                                numbers_to_write("answer", answer)}, 4);
+    lend_opening(file, keys, lend("samples", samples, sizeof(int16_t), true), answer);
     numbers[LIBRARY] = semivrakh_pack_open(lent(LIBRARY, 0), file.count, lent(LIBRARY, 1), keys.count,
                                            lent(LIBRARY, 2), samples.count, lent(LIBRARY, 3), answer.count);
     numbers[MODEL] = model_pack_open(lent(MODEL, 0), file.count, lent(MODEL, 1), keys.count,
                                      lent(MODEL, 2), samples.count, lent(MODEL, 3), answer.count);
     return settle(PACK_OPEN, numbers);
+}
+
+uint8_t compare_pack_open_stereo(struct run file, struct run keys, struct run frames, struct run answer) {
+    uint8_t numbers[SIDES];
+    lend_opening(file, keys, lend("frames", frames, sizeof(float), true), answer);
+    numbers[LIBRARY] = semivrakh_pack_open_stereo(lent(LIBRARY, 0), file.count, lent(LIBRARY, 1), keys.count,
+                                                  lent(LIBRARY, 2), frames.count, lent(LIBRARY, 3), answer.count);
+    numbers[MODEL] = model_pack_open_stereo(lent(MODEL, 0), file.count, lent(MODEL, 1), keys.count,
+                                            lent(MODEL, 2), frames.count, lent(MODEL, 3), answer.count);
+    return settle(PACK_OPEN_STEREO, numbers);
 }
 
 uint8_t compare_pack_loops(struct run file, struct run loops) {

@@ -30,7 +30,10 @@ uint8_t compare_cipher_encipher(unsigned which, struct run cipher, struct run in
 /* After it, the tag has index TAGGED. */
 enum { TAGGED = 4 };
 uint8_t compare_triad_tag(struct run key, struct run nonce, struct run associated, struct run message, struct run tag);
+/* After either, the sound has index OPENED_SOUND and the numbers OPENED_ANSWER. */
+enum { OPENED_SOUND = 2, OPENED_ANSWER = 3 };
 uint8_t compare_pack_open(struct run file, struct run keys, struct run samples, struct run answer);
+uint8_t compare_pack_open_stereo(struct run file, struct run keys, struct run frames, struct run answer);
 uint8_t compare_pack_survey(struct run file, struct run answer);
 uint8_t compare_pack_loops(struct run file, struct run loops);
 /* Hands back what the file lacks. */

@@ -25,8 +25,8 @@ struct size {
     uint64_t each_number_a_call; /* for a call that lists it, at least */
 };
 
-static const struct size short_run = {140000, 100, 1};
-static const struct size long_run = {7100000, 100, 100};
+static const struct size short_run = {160000, 100, 1};
+static const struct size long_run = {8000000, 100, 100};
 
 static void (*const families[])(void) = {
     making_ciphers,      enciphering,       streams_in_pieces,    damaged_ciphers, random_cipher_input,
@@ -97,6 +97,17 @@ static void break_lowest(void) {
     model_rules.lowest_opened = -32768;
 }
 
+/* What a frame is made of, and what its floats are. */
+static void break_frames(void) {
+    if (random_once_in(2)) {
+        printf("broken on purpose: the model has left and right the other way round\n");
+        model_rules.left_first = false;
+    } else {
+        printf("broken on purpose: the model divides by 16384 where it should divide by 32768\n");
+        model_rules.halvings--;
+    }
+}
+
 static void print_row(enum call call) {
     printf("%-16s 0:%" PRIu64, call_names[call], times_answered(call, 0));
     for (const uint8_t *number = listed_refusals[call]; *number != 0; number++) {
@@ -153,6 +164,7 @@ static const struct {
     {"tag", false, break_tag},
     {"lack", false, break_lack},
     {"lowest", false, break_lowest},
+    {"frames", false, break_frames},
 };
 
 enum { BREAKINGS = sizeof breakings / sizeof *breakings };
@@ -189,6 +201,7 @@ int main(int count, char **words) {
 
     all_records_at_the_edges();
     all_splits_of_tagged_bytes();
+    all_words_on_both_sides();
     for (int family = 0; family < FAMILIES || comparisons_made() < size->comparisons; family++) {
         families[family % FAMILIES]();
     }

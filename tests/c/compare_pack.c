@@ -1,4 +1,4 @@
-/* Input for opening and sealing packs. */
+/* Input for opening packs, as samples and as frames of floats, and for sealing them. */
 #include <inttypes.h>
 #include <stdio.h>
 #include <string.h>
@@ -46,9 +46,11 @@ static const char *const piece_names[PIECES] = {
 };
 static uint64_t times_cut[PIECES];
 
-/* How often a pack under each cipher was opened, and how often one was sealed; and how often the parts of one were
- * refused for another key count, and for an initial value of another length. */
-static uint64_t times_opened[MODEL_CIPHERS], times_sealed[MODEL_CIPHERS];
+/* How often a pack under each cipher was opened, as samples and as frames, how often one that opens as samples was
+ * refused as frames for its odd count, and how often one was sealed; and how often the parts of one were refused for
+ * another key count, and for an initial value of another length. */
+static uint64_t times_opened[MODEL_CIPHERS], times_framed[MODEL_CIPHERS], times_odd[MODEL_CIPHERS];
+static uint64_t times_sealed[MODEL_CIPHERS];
 static uint64_t times_not_counted[MODEL_CIPHERS], times_not_valued[MODEL_CIPHERS];
 
 /* Of tagged packs with one bit turned in each piece: how often so, and how often that was told by the tag alone. How
@@ -114,6 +116,12 @@ static void choose_parts(size_t name_length, size_t samples, size_t loops) {
 
 static void choose_small_parts(void) {
     choose_parts(random_between(1, 6), random_between(1, 5), random_between(1, 3));
+}
+
+/* One sample more: an even count becomes odd, and an odd one even. Loops stay in rule. */
+static void add_sample(void) {
+    parts.samples++;
+    parts.claimed_samples++;
 }
 
 static void spoil_name(void) {
@@ -238,22 +246,64 @@ static uint8_t opened_key_count(void) {
     return file[opened[SEMIVRAKH_OPENED_VALUE_AT] - 2];
 }
 
-/* Keeps what an accepted opening wrote. Each sample of it can be negated. */
-static void keep_opened(void) {
-    memcpy(opened, after(3), sizeof opened);
+/* Which cipher that is. */
+static unsigned opened_cipher(void) {
     unsigned which = model_cipher_of(opened_key_count());
     if (which == MODEL_CIPHERS) differ("a pack opens, and two bytes before its initial value stands no cipher");
-    times_opened[which]++;
+    return which;
+}
+
+/* Keeps what an accepted opening wrote. Each sample of it can be negated. */
+static void keep_opened(void) {
+    memcpy(opened, after(OPENED_ANSWER), sizeof opened);
+    times_opened[opened_cipher()]++;
     size_t count = opened[SEMIVRAKH_OPENED_SAMPLES];
-    memcpy(sound, after(2), 2 * count);
+    memcpy(sound, after(OPENED_SOUND), 2 * count);
     for (size_t i = 0; i < count; i++) {
         if (sound[i] == LOWEST_SAMPLE) differ("sample %zu of an opened pack has no opposite", i);
     }
 }
 
-static uint8_t open_file(struct run lent_keys, size_t sample_room, size_t answer_room) {
+static uint8_t open_samples(struct run lent_keys, size_t sample_room, size_t answer_room) {
     uint8_t no = compare_pack_open(lent_file(), lent_keys, room(sample_room), room(answer_room));
     if (no == 0) keep_opened();
+    return no;
+}
+
+/* The frames just opened are the samples opened before, as the compiler divides these. Their bits are compared, so that
+ * a zero has its sign looked at too. */
+static void look_at_frames(void) {
+    const float *frames = after(OPENED_SOUND);
+    if (memcmp(after(OPENED_ANSWER), opened, sizeof opened) != 0) {
+        differ("a pack is opened as frames with other numbers than as samples");
+    }
+    for (size_t i = 0; i < opened[SEMIVRAKH_OPENED_SAMPLES]; i++) {
+        float due = (float)sound[i] / 32768.0f;
+        if (memcmp(&frames[i], &due, sizeof due) != 0) differ("sample %zu, %d, opens as %a", i, sound[i], frames[i]);
+    }
+}
+
+static bool is_odd(size_t count) {
+    return count % 2 == 1;
+}
+
+/* Opens the file as frames, in the same room in which opening it as samples answered `opening`. */
+static void open_frames(uint8_t opening, struct run lent_keys, size_t float_room, size_t answer_room) {
+    uint8_t no = compare_pack_open_stereo(lent_file(), lent_keys, room(float_room), room(answer_room));
+    bool odd = no == SEMIVRAKH_ODD_SAMPLES;
+    if (no != opening && !(odd && (opening == 0 || opening == SEMIVRAKH_NO_ROOM))) {
+        differ("opening a pack as samples answers %d, and as frames %d", opening, no);
+    }
+    if (no == 0) look_at_frames();
+    if (no == 0) times_framed[opened_cipher()]++;
+    if (odd && opening == 0) times_odd[opened_cipher()]++;
+}
+
+/* Opens it in both ways. Of an accepted file it is known whether its count is odd. */
+static uint8_t open_file(struct run lent_keys, size_t sample_room, size_t answer_room) {
+    uint8_t no = open_samples(lent_keys, sample_room, answer_room);
+    if (no == 0) plan_number(is_odd(opened[SEMIVRAKH_OPENED_SAMPLES]) ? SEMIVRAKH_ODD_SAMPLES : 0);
+    open_frames(no, lent_keys, sample_room, answer_room);
     return no;
 }
 
@@ -396,10 +446,12 @@ static void count_refused_key(uint8_t no) {
     if (no == SEMIVRAKH_BAD_VALUE) times_not_valued[parts.cipher]++;
 }
 
-/* Survey and loops take no keys, and list neither 1 nor 38: these are passed over where their number is planned. */
+/* The faults are those of opening as frames. Opening as samples doesn't list 35, and survey and loops, which take no
+ * keys, list neither that nor 1 nor 38: these are passed over where their number is planned. */
 static void open_with(faults set) {
     size_t sample_room, answer_room = enough(7);
     choose_small_parts();
+    if (is_odd(parts.samples) != has(set, SEMIVRAKH_ODD_SAMPLES)) add_sample();
     if (has(set, SEMIVRAKH_CUT_IN_TAG) || has(set, SEMIVRAKH_WRONG_TAG)) choose_key(MODEL_TRIAD);
     if (has(set, 11)) choose_name(random_once_in(2) ? 33 : random_between(34, 255));
     if (has(set, 12)) spoil_name();
@@ -418,9 +470,12 @@ static void open_with(faults set) {
     write_file();
     if (has(set, SEMIVRAKH_WRONG_TAG)) spoil_tag();
     cut_as(set);
+    struct run lent_keys = keys_but_for(set);
     plan_first(PACK_OPEN, set);
-    uint8_t no = open_file(keys_but_for(set), sample_room, answer_room);
+    uint8_t no = open_samples(lent_keys, sample_room, answer_room);
     count_refused_key(no);
+    plan_first(PACK_OPEN_STEREO, set);
+    open_frames(no, lent_keys, sample_room, answer_room);
     plan_first(PACK_SURVEY, set);
     survey_file(no, enough_but_for(set, 7));
     look_at_cut();
@@ -429,7 +484,7 @@ static void open_with(faults set) {
 }
 
 void opening_packs(void) {
-    with_each_fault_set(PACK_OPEN, 0, open_with);
+    with_each_fault_set(PACK_OPEN_STEREO, 0, open_with);
 }
 
 /* What is wrong with a file is the same without keys, but for its tag; the room is another thing. */
@@ -910,6 +965,26 @@ void opening_lowest_words(void) {
     for (int packs = 0; packs < 4; packs++) open_lowest_words();
 }
 
+/* A pack of as many words as it can hold, from `first` on, left and right in turn; or turned, with each on the other
+ * side. */
+static void open_words(unsigned which, unsigned first, bool turned) {
+    choose_parts(0, SEMIVRAKH_SAMPLES_MOST, 0);
+    choose_key(which);
+    for (size_t i = 0; i < parts.samples; i++) sound[i] = (int16_t)(first + (turned ? i ^ 1 : i));
+    write_known_file();
+    put_tag();
+    open_known_file();
+}
+
+void all_words_on_both_sides(void) {
+    for (unsigned which = 0; which < MODEL_CIPHERS; which++) {
+        for (unsigned first = 0; first <= UINT16_MAX; first += SEMIVRAKH_SAMPLES_MOST) {
+            open_words(which, first, false);
+            open_words(which, first, true);
+        }
+    }
+}
+
 /* Prints how often it was so at each place, and answers if it was at least so many times. */
 static bool stands_often_enough(const char *what, const uint64_t times[STANDS], uint64_t each) {
     bool enough = true;
@@ -985,6 +1060,8 @@ static bool each_cipher_often_enough(const char *what, const uint64_t times[MODE
 
 bool ciphers_often_enough(uint64_t each) {
     bool enough = each_cipher_often_enough("opened under", times_opened, each);
+    enough &= each_cipher_often_enough("as frames under", times_framed, each);
+    enough &= each_cipher_often_enough("35 as frames of", times_odd, each);
     enough &= each_cipher_often_enough("sealed under", times_sealed, each);
     enough &= each_cipher_often_enough("13 instead of", times_not_counted, each);
     enough &= each_cipher_often_enough("2 instead of", times_not_valued, each);

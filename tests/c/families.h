@@ -24,9 +24,11 @@ void damaged_tagged_packs(void);
 void cut_packs(void);
 void sealing_lowest_samples(void);
 void opening_lowest_words(void);
+/* Each of the 65,536 words as a left and as a right sample, under each cipher. */
+void all_words_on_both_sides(void);
 void random_packs(void);
-/* Prints how often packs under each cipher were opened and sealed, and refused for their key count or initial value,
- * and answers if each was at least so many times. */
+/* Prints how often packs under each cipher were opened, as samples and as frames, and sealed, and refused for their odd
+ * count, key count or initial value, and answers if each was at least so many times. */
 bool ciphers_often_enough(uint64_t each);
 /* The same of tagged packs that were damaged in each count and in each body, and of tag sections that were no such. */
 bool tags_often_enough(uint64_t each);

@@ -1,5 +1,6 @@
-// The headers as C++: every call is named and linked, one stream and one pack under each cipher go there and back, a
-// tag comes out as its paper has it, one empty sound goes over the link, and each number for no has its words.
+// The headers as C++: every call is named and linked, one stream and one pack under each cipher go there and back, the
+// pack as stereo sound too, a tag comes out as its paper has it, one empty sound goes over the link, and each number
+// for no has its words.
 #include "semivrakh_words.h"
 #include "semivrakh.h"
 
@@ -54,18 +55,24 @@ static bool tag_is_the_papers() {
 
 static bool pack_comes_back(uint8_t cipher, size_t value) {
     const int16_t samples[2] = {-1, 1};
+    const float frame[2] = {-1.0f / 32768.0f, 1.0f / 32768.0f};
     const uint32_t loop[2] = {0, 2};
     uint8_t pack[64];
     int16_t opened[2];
+    float stereo[2];
     uint32_t loops[2];
     size_t length = 0, loop_numbers = 0, surveyed[SEMIVRAKH_OPENED_NUMBERS], numbers[SEMIVRAKH_OPENED_NUMBERS];
+    size_t stereo_numbers[SEMIVRAKH_OPENED_NUMBERS];
     int no = semivrakh_pack_seal(nullptr, 0, keys, sizeof keys, cipher, 0, keys, value, samples, 2, loop, 2,
                                  pack, sizeof pack, &length);
     no |= semivrakh_pack_survey(pack, length, surveyed, SEMIVRAKH_OPENED_NUMBERS);
     no |= semivrakh_pack_open(pack, length, keys, sizeof keys, opened, 2, numbers, SEMIVRAKH_OPENED_NUMBERS);
+    no |= semivrakh_pack_open_stereo(pack, length, keys, sizeof keys, stereo, 2, stereo_numbers,
+                                     SEMIVRAKH_OPENED_NUMBERS);
     no |= semivrakh_pack_loops(pack, length, loops, 2, &loop_numbers);
     return no == SEMIVRAKH_OK && pack[surveyed[SEMIVRAKH_OPENED_VALUE_AT] - 2] == cipher
         && loop_numbers == 2 && std::memcmp(surveyed, numbers, sizeof numbers) == 0
+        && std::memcmp(surveyed, stereo_numbers, sizeof numbers) == 0 && std::memcmp(stereo, frame, sizeof frame) == 0
         && semivrakh_pack_lacks(pack, length) == 0 && semivrakh_pack_lacks(pack, length - 1) == 1
         && std::memcmp(opened, samples, sizeof samples) == 0 && std::memcmp(loops, loop, sizeof loop) == 0;
 }
@@ -96,8 +103,8 @@ static const unsigned refusals[] = {
     SEMIVRAKH_NO_ROOM,        SEMIVRAKH_NO_SESSION,     SEMIVRAKH_LONG_SOUND,     SEMIVRAKH_NO_TRANSFER,
     SEMIVRAKH_WRONG_SOUND,    SEMIVRAKH_NOT_A_FRAME,    SEMIVRAKH_OTHER_SESSION,  SEMIVRAKH_IMPOSSIBLE,
     SEMIVRAKH_OUT_OF_RULE,    SEMIVRAKH_CUT_IN_NAME,    SEMIVRAKH_CUT_IN_KEY,     SEMIVRAKH_CUT_IN_SAMPLES,
-    SEMIVRAKH_CUT_IN_LOOPS,   SEMIVRAKH_LOWEST_SAMPLE,  SEMIVRAKH_OTHER_LENGTH,   SEMIVRAKH_WRONG_TAG,
-    SEMIVRAKH_CUT_IN_TAG,
+    SEMIVRAKH_CUT_IN_LOOPS,   SEMIVRAKH_LOWEST_SAMPLE,  SEMIVRAKH_ODD_SAMPLES,    SEMIVRAKH_OTHER_LENGTH,
+    SEMIVRAKH_WRONG_TAG,      SEMIVRAKH_CUT_IN_TAG,
 };
 
 static bool is_refusal(unsigned number) {

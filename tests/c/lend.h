@@ -20,6 +20,7 @@ enum call {
     TRIAD_ENCIPHER,
     TRIAD_TAG,
     PACK_OPEN,
+    PACK_OPEN_STEREO,
     PACK_SURVEY,
     PACK_LOOPS,
     PACK_LACKS,

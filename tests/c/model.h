@@ -38,6 +38,7 @@ enum model_reason {
     MODEL_CUT_IN_SAMPLES,
     MODEL_CUT_IN_LOOPS,
     MODEL_LOWEST_SAMPLE,
+    MODEL_ODD_SAMPLES,
     MODEL_OTHER_LENGTH,
     MODEL_WRONG_TAG,
     MODEL_CUT_IN_TAG,
@@ -64,6 +65,8 @@ struct model_rules {
     uint8_t number[MODEL_REASONS];
     size_t lacks_besides; /* what a cut file lacks besides the bytes of the count or body that it ends in */
     int lowest_opened;    /* the lowest sample that opening writes */
+    unsigned halvings;    /* how often a sample is halved to be a float */
+    bool left_first;      /* whether sample 0 is the left side of its frame, and sample 1 the right */
     size_t tag_compared;  /* how many bytes of a file's tag opening looks at */
     bool loops_tagged;    /* whether the loop section is among the associated data */
 };
@@ -196,6 +199,10 @@ uint8_t model_pack_open(const uint8_t *file, size_t file_length,
                         const uint8_t *keys, size_t keys_length,
                         int16_t *samples, size_t sample_room,
                         size_t *answer, size_t answer_room);
+uint8_t model_pack_open_stereo(const uint8_t *file, size_t file_length,
+                               const uint8_t *keys, size_t keys_length,
+                               float *frames, size_t float_room,
+                               size_t *answer, size_t answer_room);
 uint8_t model_pack_survey(const uint8_t *file, size_t file_length,
                           size_t *answer, size_t answer_room);
 uint8_t model_pack_loops(const uint8_t *file, size_t file_length,

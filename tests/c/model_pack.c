@@ -199,22 +199,71 @@ static void decipher(uint8_t *plain, const struct pack *pack, const uint8_t *fil
     }
 }
 
+/* What is wrong with a file that is to be opened, but for the room; otherwise 0, and its plain samples are known. */
+static uint8_t open_body(struct pack *pack, const uint8_t *file, size_t file_length, const uint8_t *keys,
+                         size_t keys_length, uint8_t plain[BODY_MOST]) {
+    if (keys_length != KEYS_BYTES) return model_no(MODEL_BAD_KEY);
+    uint8_t no = read_pack(pack, file, file_length);
+    if (no != 0) return no;
+    decipher(plain, pack, file, keys);
+    return tag_agrees(pack, file, keys, plain) ? 0 : model_no(MODEL_WRONG_TAG);
+}
+
+/* The numbers, if there is room for them and for the sound. */
+static uint8_t answer_opened(const struct pack *pack, size_t sound_room, size_t *answer, size_t answer_room) {
+    if (sound_room < pack->numbers[SEMIVRAKH_OPENED_SAMPLES]) return model_no(MODEL_NO_ROOM);
+    return model_answer(answer, answer_room, pack->numbers, SEMIVRAKH_OPENED_NUMBERS);
+}
+
+static int16_t sample_at(const uint8_t *plain, size_t index) {
+    return sample_of(signed_word(plain[2 * index], plain[2 * index + 1]));
+}
+
 uint8_t model_pack_open(const uint8_t *file, size_t file_length,
                         const uint8_t *keys, size_t keys_length,
                         int16_t *samples, size_t sample_room,
                         size_t *answer, size_t answer_room) {
     static uint8_t plain[BODY_MOST];
     struct pack pack;
-    if (keys_length != KEYS_BYTES) return model_no(MODEL_BAD_KEY);
-    uint8_t no = read_pack(&pack, file, file_length);
+    uint8_t no = open_body(&pack, file, file_length, keys, keys_length, plain);
+    if (no == 0) no = answer_opened(&pack, sample_room, answer, answer_room);
     if (no != 0) return no;
-    decipher(plain, &pack, file, keys);
-    if (!tag_agrees(&pack, file, keys, plain)) return model_no(MODEL_WRONG_TAG);
+    for (size_t i = 0; i < pack.numbers[SEMIVRAKH_OPENED_SAMPLES]; i++) samples[i] = sample_at(plain, i);
+    return 0;
+}
+
+/* A sample, halved 15 times, in the 32 bits that IEEE 754 has for it; nothing is divided here. First the sign; then the
+ * place of the magnitude's highest one, less the halvings and over a bias of 127; then, in 23 bits, what stands below
+ * that one, which itself isn't written. Zero has no highest one, and all its bits are zeros. */
+static uint32_t float_of(int sample) {
+    uint32_t sign = sample < 0 ? 1 : 0, magnitude = (uint32_t)(sample < 0 ? -sample : sample), place = 15;
+    if (magnitude == 0) return 0;
+    while (magnitude >> place == 0) place--;
+    uint32_t exponent = 127 + place - model_rules.halvings;
+    uint32_t fraction = (magnitude << (23 - place)) - ((uint32_t)1 << 23);
+    return sign << 31 | exponent << 23 | fraction;
+}
+
+enum { LEFT, RIGHT, CHANNELS };
+
+uint8_t model_pack_open_stereo(const uint8_t *file, size_t file_length,
+                               const uint8_t *keys, size_t keys_length,
+                               float *frames, size_t float_room,
+                               size_t *answer, size_t answer_room) {
+    static uint8_t plain[BODY_MOST];
+    struct pack pack;
+    uint8_t no = open_body(&pack, file, file_length, keys, keys_length, plain);
+    if (no != 0) return no;
     size_t count = pack.numbers[SEMIVRAKH_OPENED_SAMPLES];
-    if (sample_room < count) return model_no(MODEL_NO_ROOM);
-    no = model_answer(answer, answer_room, pack.numbers, SEMIVRAKH_OPENED_NUMBERS);
+    if (count % CHANNELS != 0) return model_no(MODEL_ODD_SAMPLES);
+    no = answer_opened(&pack, float_room, answer, answer_room);
     if (no != 0) return no;
-    for (size_t i = 0; i < count; i++) samples[i] = sample_of(signed_word(plain[2 * i], plain[2 * i + 1]));
+    for (size_t frame = 0; frame < count / CHANNELS; frame++) {
+        uint32_t sides[CHANNELS];
+        sides[model_rules.left_first ? LEFT : RIGHT] = float_of(sample_at(plain, CHANNELS * frame));
+        sides[model_rules.left_first ? RIGHT : LEFT] = float_of(sample_at(plain, CHANNELS * frame + 1));
+        memcpy(frames + CHANNELS * frame, sides, sizeof sides);
+    }
     return 0;
 }
 

@@ -8,10 +8,10 @@
  * for it, after all samples were looked at; of a sound of any length, and with such a sample at any place, there is no
  * second one.
  *
- * Likewise one thing is told of a key and a sound together: whether opening finds the tag of a pack under TRIAD to be
- * theirs. So opening has one jump for that, and its number may be made of it; of a pack of any length, and with a tag
- * that is wrong at any byte, there is no second one, so nobody learns from the time where a guessed tag is right. All
- * else that TRIAD does, it does without a table and without a jump.
+ * Likewise one thing is told of a key and a sound together: whether opening, as samples or as frames, finds the tag of
+ * a pack under TRIAD to be theirs. So opening has one jump for that, and its number may be made of it; of a pack of any
+ * length, and with a tag that is wrong at any byte, there is no second one, so nobody learns from the time where a
+ * guessed tag is right. All else that TRIAD does, it does without a table and without a jump.
  *
  * Enocoro is another matter. Its box S8 is a table that is read at bytes of the state, and so at places that a key
  * says: that address does depend on a key, and how long the reading takes is left to the caches, of which nothing is
@@ -294,14 +294,56 @@ static void one_verdict_for(size_t samples) {
     verdict_allowed = tag_is_hidden(samples);
 }
 
-static void open_wrong_tag(uint8_t *file, size_t length, const uint8_t *keys, size_t samples, size_t wrong_at) {
-    static int16_t opened[SEMIVRAKH_SAMPLES_MOST];
+/* What was opened. */
+static int16_t opened[SEMIVRAKH_SAMPLES_MOST];
+static float frames[SEMIVRAKH_SAMPLES_MOST];
+
+/* Each of these floats is made of a secret: its highest byte, with the sign, is. The lowest is zero for any sample. */
+static void secret_frames(size_t samples) {
+    static uint8_t marks[sizeof frames];
+    (void)VALGRIND_GET_VBITS(frames, marks, samples * sizeof *frames);
+    for (size_t end = sizeof *frames; end <= samples * sizeof *frames; end += sizeof *frames) {
+        if (marks[end - 1] != 0) continue;
+        fault("semivrakh_pack_open_stereo", "a float that should does not depend on");
+        return;
+    }
+}
+
+/* As samples and as frames. That the count is odd, the head of the file says, which anybody can read. */
+static void open_pack(const uint8_t *file, size_t length, const uint8_t *keys, size_t samples) {
+    size_t answer[SEMIVRAKH_OPENED_NUMBERS], stereo_answer[SEMIVRAKH_OPENED_NUMBERS];
+    bool is_odd = samples % 2 == 1;
+    VALGRIND_MAKE_MEM_DEFINED(opened, sizeof opened); /* so nothing of an earlier file is taken for this one's */
+    VALGRIND_MAKE_MEM_DEFINED(frames, sizeof frames);
+    one_verdict_for(samples);
+    CALL(0, semivrakh_pack_open, file, length, keys, SEMIVRAKH_KEYS_BYTES, opened, samples, answer,
+         SEMIVRAKH_OPENED_NUMBERS);
+    public_bytes("semivrakh_pack_open", answer, sizeof answer);
+    secret_bytes("semivrakh_pack_open", opened, 2 * samples);
+    one_verdict_for(samples);
+    CALL(is_odd ? SEMIVRAKH_ODD_SAMPLES : 0, semivrakh_pack_open_stereo, file, length, keys, SEMIVRAKH_KEYS_BYTES,
+         frames, samples, stereo_answer, SEMIVRAKH_OPENED_NUMBERS);
+    if (is_odd) return;
+    public_bytes("semivrakh_pack_open_stereo", stereo_answer, sizeof stereo_answer);
+    secret_frames(samples);
+}
+
+/* It is refused with this number in both ways, and by no more than the tag's one jump. */
+static void refuse_pack(uint8_t number, const uint8_t *file, size_t length, const uint8_t *keys, size_t samples) {
     size_t answer[SEMIVRAKH_OPENED_NUMBERS];
+    bool by_tag = number == SEMIVRAKH_WRONG_TAG;
+    if (by_tag) one_verdict_for(samples);
+    CALL(number, semivrakh_pack_open, file, length, keys, SEMIVRAKH_KEYS_BYTES, opened, samples, answer,
+         SEMIVRAKH_OPENED_NUMBERS);
+    if (by_tag) one_verdict_for(samples);
+    CALL(number, semivrakh_pack_open_stereo, file, length, keys, SEMIVRAKH_KEYS_BYTES, frames, samples, answer,
+         SEMIVRAKH_OPENED_NUMBERS);
+}
+
+static void open_wrong_tag(uint8_t *file, size_t length, const uint8_t *keys, size_t samples, size_t wrong_at) {
     uint8_t *wrong = file + length - under->tag_bytes + wrong_at, turned = (uint8_t)(1 << wrong_at);
     *wrong ^= turned;
-    one_verdict_for(samples);
-    CALL(38, semivrakh_pack_open, file, length, keys, SEMIVRAKH_KEYS_BYTES, opened, samples, answer,
-         SEMIVRAKH_OPENED_NUMBERS);
+    refuse_pack(SEMIVRAKH_WRONG_TAG, file, length, keys, samples);
     *wrong ^= turned;
 }
 
@@ -313,12 +355,12 @@ static void open_wrong_tags(uint8_t *file, size_t length, const uint8_t *keys, s
 }
 
 static void pack(size_t samples) {
-    static int16_t sound[SEMIVRAKH_SAMPLES_MOST], opened[SEMIVRAKH_SAMPLES_MOST];
+    static int16_t sound[SEMIVRAKH_SAMPLES_MOST];
     static uint8_t file[SEMIVRAKH_PACK_MOST];
     uint8_t keys[SEMIVRAKH_KEYS_BYTES], value[VALUE_MOST];
     const uint8_t *name = (const uint8_t *)"Choir";
     const uint32_t loops[] = {0, (uint32_t)samples, 0, 1};
-    size_t loop_numbers = samples > 0 ? 4 : 0, length = 0, answer[SEMIVRAKH_OPENED_NUMBERS];
+    size_t loop_numbers = samples > 0 ? 4 : 0, length = 0;
     new_key(keys, sizeof keys);
     random_fill(value, sizeof value);
     new_samples(sound, samples, NULL);
@@ -330,13 +372,9 @@ static void pack(size_t samples) {
          value, under->value_bytes, sound, samples, loops, loop_numbers, file, sizeof file, &length);
     public_bytes("semivrakh_pack_seal", &length, sizeof length);
     look_at_file(file, length, samples);
-    CALL(number_of_cut(), semivrakh_pack_open, file, length - 1, keys, sizeof keys, opened, samples, answer,
-         SEMIVRAKH_OPENED_NUMBERS);
+    refuse_pack(number_of_cut(), file, length - 1, keys, samples);
     open_wrong_tags(file, length, keys, samples);
-    one_verdict_for(samples);
-    CALL(0, semivrakh_pack_open, file, length, keys, sizeof keys, opened, samples, answer, SEMIVRAKH_OPENED_NUMBERS);
-    public_bytes("semivrakh_pack_open", answer, sizeof answer);
-    secret_bytes("semivrakh_pack_open", opened, 2 * samples);
+    open_pack(file, length, keys, samples);
     survey(file, length);
     if (samples > 0) survey_cut(file, samples);
 }

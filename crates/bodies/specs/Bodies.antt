@@ -1,31 +1,38 @@
--- The body of a pack under the key of its ring that a cipher and a key number name: read as samples, and written.
-use Prim.Native.Nat.{ℕ}
+-- Where a pack's body begins: its cipher's keystream, under the key of its ring that a key number names.
+use Prim.Native.Nat.{ℕ, _+_}
 use mathlib.Core.List.{List, _∷_}
-use lib.IntN.{ℤ}
-use Rattle.octets.specs.{Buffers.put, Stream.Keystream, Stream.enciphered}
-use Rattle.refusals.specs.{Numbers.badKeyNumber, Rules._over_, Rules.Fault, Rules._says_, Rules.settled}
+use Rattle.octets.specs.{Buffers.slice, Stream.Keystream}
+use Rattle.refusals.specs.Numbers.{accepted, badKeyNumber}
+use Rattle.refusals.specs.Rules.{_over_, Fault, _says_, settled}
 use Rattle.ciphers.specs.Calls.{valueFaults}
-use Rattle.samples.specs.Words.{wordsOf, bytesOfAll}
-use Rattle.pack.specs.Ciphers.{cipherOf, Rings, ringFor}
-use Rattle.pack.specs.{Layout.keyNamed, Limits.lastKey, declared.Kind.Kind}
+use Rattle.trivium.specs.Calls.{refusedMaking, ahead}
+use Rattle.pack.specs.Ciphers.{cipherOf, picked, Rings, ringFor}
+use Rattle.pack.specs.{Layout.keyNamed, Limits.lastKey, Places.byteAt, declared.Kind.Kind}
 
--- 14, and 2: then nothing is read or written
+-- 14, and 2
 abbrev pub bodyFaults : Kind → ℕ → List ℕ → List Fault
 bodyFaults kind number value = (number over lastKey says badKeyNumber) ∷ valueFaults (cipherOf kind) value
 
 abbrev pub streamFor : Kind → Rings → ℕ → List ℕ → Keystream
 streamFor kind r number value = cipherOf kind .stream (keyNamed (ringFor kind r) number) value
 
--- the samples that a body deciphers to, at the front of the output, if they have room there
-unfoldable pub reading : Kind → Rings → ℕ → List ℕ → List ℕ → List ℤ → List ℤ
-reading kind r number value body output =
-    settled (bodyFaults kind number value)
-    (put output 0 (wordsOf (enciphered (streamFor kind r number value) body)))
-    (λ n. output)
+-- the number for no, and the keystream: of a refused beginning, that of a refused making
+pub record Ready : Type 0 where
+  pub refusal : ℕ
+  pub stream : Keystream
 
--- samples as enciphered bytes, from `at` on, if they have room there
-unfoldable pub writing : Kind → Rings → ℕ → List ℕ → List ℤ → List ℕ → ℕ → List ℕ
-writing kind r number value samples output at =
-    settled (bodyFaults kind number value)
-    (put output at (enciphered (streamFor kind r number value) (bytesOfAll samples)))
-    (λ n. output)
+abbrev pub ready : ℕ → Keystream → Ready
+ready refusal stream = record { refusal = refusal; stream = stream }
+
+abbrev pub refusedBeginning : ℕ → Ready
+refusedBeginning number = ready number (ahead (refusedMaking number .registers))
+
+unfoldable pub beginning : Kind → Rings → ℕ → List ℕ → Ready
+beginning kind r number value =
+    settled (bodyFaults kind number value) (ready accepted (streamFor kind r number value)) refusedBeginning
+
+-- by a file's key section, which begins at `at`
+unfoldable pub beginningFrom : Rings → List ℕ → ℕ → Ready
+beginningFrom r file at =
+    let kind = picked (byteAt file at) in
+    beginning kind r (byteAt file (at + 1)) (slice file (at + 2) (cipherOf kind .valueBytes))

@@ -1,5 +1,5 @@
-// The bodies of packs, apart from their faults: enciphered bytes, read as samples, and samples, written as enciphered
-// bytes, under the key of its ring that a cipher and a key number name.
+// Where the bodies of packs begin: their cipher, under the key of its ring that a pack names, and with its initial
+// value.
 ghost use mathlib.Core.Path.{_≡_};
 ghost use Prim.Native.Nat.{_≤_};
 ghost use lib.ListN.{length};
@@ -9,9 +9,15 @@ ghost use Rattle.enocoro.specs.Keystream.{enocoro};
 ghost use Rattle.triad.specs.Tag.{triad};
 ghost use Rattle.chunks.specs.Ahead.{ahead};
 ghost use Rattle.pack.specs.Ciphers.{cipherOf, rings};
-ghost use Rattle.bodies.specs.Bodies.{streamFor, reading, writing};
+ghost use Rattle.bodies.specs.Bodies.{streamFor, ready, refusedBeginning, beginning, beginningFrom};
 use chunks::Cipher;
 use pack::Kind;
+
+// A refusal of 0 says that the call was not refused.
+pub struct Beginning {
+    pub refusal: u8,
+    pub cipher: Cipher,
+}
 
 // Each cipher at the start of a key's and an initial value's keystream. Of a key that is lent as an array its length is
 // known.
@@ -78,51 +84,66 @@ fn begun(
     }
 }
 
-// A body read as samples to the front of the output, if they have room there.
-pub fn read(
-    kind: Kind,
-    ring: [[u8; 10]; 4],
-    second: [[u8; 16]; 4],
-    third: [[u8; 16]; 4],
-    number: u8,
-    value: &[u8],
-    body: &[u8],
-    output: &mut [i16],
-)
-    ensures { λ _. ⌜ now (output .exit) ≡ reading kind (rings ring second third) number (now (value .entry))
-        (now (body .entry)) (now (output .entry)) ⌝ }
+fn refused_beginning(number: u8) -> Beginning
+    ensures { λ r. ⌜ ready (r .refusal) (ahead (r .cipher)) ≡ refusedBeginning number ⌝ }
 {
-    if pack::LAST_KEY < number {
-        return;
+    Beginning {
+        refusal: number,
+        cipher: Cipher::Trivium(trivium::Registers {
+            a1: 0,
+            a0: 0,
+            b1: 0,
+            b0: 0,
+            c1: 0,
+            c0: 0,
+        }),
     }
-    if value.len() != pack::value_bytes(kind) {
-        return;
-    }
-    let cipher = begun(kind, ring, second, third, number, value);
-    chunks::read_samples(cipher, body, output);
 }
 
-// Samples as enciphered bytes from `at`, if they have room there.
-pub fn write(
+// The cipher of a pack at the start of its body, by the key of its ring that it names and its initial value.
+pub fn begin(
     kind: Kind,
     ring: [[u8; 10]; 4],
     second: [[u8; 16]; 4],
     third: [[u8; 16]; 4],
     number: u8,
     value: &[u8],
-    samples: &[i16],
-    output: &mut [u8],
-    at: usize,
-)
-    ensures { λ _. ⌜ now (output .exit) ≡ writing kind (rings ring second third) number (now (value .entry))
-        (now (samples .entry)) (now (output .entry)) at ⌝ }
+) -> Beginning
+    ensures { λ r. ⌜ ready (r .refusal) (ahead (r .cipher))
+        ≡ beginning kind (rings ring second third) number (now (value .entry)) ⌝ }
 {
     if pack::LAST_KEY < number {
-        return;
+        return refused_beginning(refusals::BAD_KEY_NUMBER);
     }
     if value.len() != pack::value_bytes(kind) {
-        return;
+        return refused_beginning(refusals::BAD_VALUE);
     }
-    let cipher = begun(kind, ring, second, third, number, value);
-    chunks::write_samples(cipher, samples, output, at);
+    Beginning {
+        refusal: refusals::ACCEPTED,
+        cipher: begun(kind, ring, second, third, number, value),
+    }
+}
+
+// The same by the key section of a file, which begins at `at`.
+pub fn begin_from(
+    file: &[u8],
+    ring: [[u8; 10]; 4],
+    second: [[u8; 16]; 4],
+    third: [[u8; 16]; 4],
+    at: usize,
+) -> Beginning
+    ensures { λ r. ⌜ ready (r .refusal) (ahead (r .cipher))
+        ≡ beginningFrom (rings ring second third) (now (file .entry)) at ⌝ }
+{
+    if file.len() < 2 {
+        return refused_beginning(refusals::BAD_VALUE);
+    }
+    if file.len() - 2 < at {
+        return refused_beginning(refusals::BAD_VALUE);
+    }
+    let count = file[at];
+    let number = file[at + 1];
+    let kind = pack::kind_of(count);
+    let value = octets::slice(file, at + 2, pack::value_bytes(kind));
+    begin(kind, ring, second, third, number, value)
 }

@@ -5,8 +5,9 @@ ghost use Prim.Native.Nat.{_+_, _/_, _≤_};
 ghost use lib.ListN.{length};
 ghost use Rattle.octets.specs.Buffers.{slice, put};
 ghost use Rattle.octets.specs.Stream.{from, enciphered};
+ghost use Rattle.refusals.specs.Outcome.{outcome};
 ghost use Rattle.samples.specs.Words.{wordsOf, bytesOfAll};
-ghost use Rattle.chunks.specs.Ahead.{ahead};
+ghost use Rattle.chunks.specs.Ahead.{ahead, readingOn};
 
 // A cipher at some place of its keystream.
 pub enum Cipher {
@@ -51,14 +52,14 @@ fn read_chunk(cipher: Cipher, body: &[u8], output: &mut [i16], at: usize, size: 
     next
 }
 
-// A body deciphered chunk by chunk to the front of the output, if its samples have room there.
-pub fn read_samples(start: Cipher, body: &[u8], output: &mut [i16])
-    ensures { λ _. ⌜ now (output .exit)
-        ≡ put (now (output .entry)) 0 (wordsOf (enciphered (ahead start) (now (body .entry)))) ⌝ }
+// A body deciphered chunk by chunk to the front of the output, if its samples have room there, and the cipher behind it.
+pub fn read_samples(start: Cipher, body: &[u8], output: &mut [i16]) -> Cipher
+    ensures { λ r. ⌜ outcome (ahead r) (now (output .exit))
+        ≡ readingOn (ahead start) (now (body .entry)) (now (output .entry)) ⌝ }
 {
     let n = body.len();
     if output.len() < n / 2 {
-        return;
+        return start;
     }
     let mut cipher = start;
     let mut at = 0;
@@ -66,7 +67,7 @@ pub fn read_samples(start: Cipher, body: &[u8], output: &mut [i16])
         cipher = read_chunk(cipher, body, output, at, CHUNK);
         at += CHUNK;
     }
-    read_chunk(cipher, body, output, at, n % CHUNK);
+    read_chunk(cipher, body, output, at, n % CHUNK)
 }
 
 // All samples, as bytes and enciphered, from `at`, if they have room there. As bytes they are written all at once,

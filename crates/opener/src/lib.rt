@@ -27,19 +27,10 @@ pub fn open(
         return pack::refused_opening(0, refusals::NO_ROOM);
     }
     let value_at = opened.value_at;
-    let count = file[value_at - 2];
-    let value_bytes = (count as usize) - 1;
-    let value = octets::slice(file, value_at, value_bytes);
-    let body = octets::slice(file, value_at + value_bytes + 4, 2 * samples);
-    bodies::read(
-        pack::kind_of(count),
-        ring,
-        second,
-        third,
-        opened.key,
-        value,
-        body,
-        output,
-    );
+    let loops_at = opened.loops_at;
+    let begun = bodies::begin_from(file, ring, second, third, value_at - 2);
+    let cipher = begun.cipher;
+    let body = octets::slice(file, loops_at - 1 - 2 * samples, 2 * samples);
+    chunks::read_samples(cipher, body, output);
     opened
 }

@@ -1,75 +1,85 @@
 -- How the rules of opening on bytes come out: those of the file decide before any room, and both rooms have the same
 -- number.
-use mathlib.Core.Path.{_≡_, refl, _∙_}
-use mathlib.Core.Bool.{Bool, true, false}
-use mathlib.Core.List.{List, [], _∷_}
-use mathlib.Core.Logic.{_≢_}
+use mathlib.Core.{Path._≡_, Path.refl, Path.sym, Path.ap, Path._∙_, Bool.Bool, Bool.true, Bool.false}
+use mathlib.Core.{List.List, List.[], List._∷_, List._++_, Logic._≢_, Logic._⊎_, Logic.inl, Logic.inr}
 use Prim.Native.Nat.{ℕ, _<_, _≤_}
 use native.Mathlib.Omega.{arith}
 use borrow.Author.Tests.{ltb-true, ltb-false}
 use lib.{Dec.T, Dec.ltb, ListN.length}
-use Rattle.octets.specs.Stream.{Cipher}
-use Rattle.refusals.specs.Numbers.{accepted, noRoom}
-use Rattle.refusals.specs.Rules.{_over_, _under_, _says_, first}
+use Rattle.octets.specs.{Buffers.placed, Buffers.put, Stream.Cipher}
+use Rattle.octets.proofs.Buffers.{put-placed}
+use Rattle.refusals.specs.{Numbers.accepted, Numbers.noRoom, Outcome.Outcome, Outcome.outcome}
+use Rattle.refusals.specs.Rules.{_under_, Fault, _says_, first, settled}
 use Rattle.refusals.proofs.Faults.{numbered, all-right, refused-at, rule-passes}
-use Rattle.refusals.proofs.Settled.{first-here, first-later}
-use Rattle.pack.specs.Faults.{faultsFromSamples, faultsFromKey, fileFaults, keyedFaults, openFaults}
-use Rattle.pack.specs.{Ciphers.cipherIn, Ciphers.ringIn, Places.sampleCount}
-use Rattle.rings.specs.Ring.{keysBytes, ringsOf}
-use Rattle.pack.proofs.Theorems.{keyed-numbered}
-use Rattle.survey_bytes.specs.Calls.{numbersRoom}
-use Rattle.pack_bytes.specs.Calls.{keysFault, packOpenFaults}
+use Rattle.refusals.proofs.Settled.{settled-done, settled-left, first-here, first-later}
+use Rattle.refusals.proofs.Settled.{answer-number, answer-done, answer-left}
+use Rattle.pack.specs.{Calls.refusedOpening, declared.Opened.Opened}
+use Rattle.pack.specs.Faults.{faultsFromSamples, faultsFromKey, fileFaults, keyedFaults, roomFaults, openFaults}
+use Rattle.rings.specs.Ring.{keysBytes}
+use Rattle.survey_bytes.specs.Calls.{answerNumbers, numbersRoom}
+use Rattle.pack_bytes.specs.Calls.{keysFault, packOpened, bytesFaults, bytesOpening}
+
+-- ---- whatever a file is opened as: by the rules `opens`, `told` is answered and `done` is what `output` comes to
+
+module _ {A : Type 0} (keys : List ℕ) (right : length keys ≡ keysBytes) (opens : List Fault)
+  (no-zero : T (numbered opens)) (told : Opened) (done output : List A) (answer : List ℕ) where
+  abbrev rest : List Fault
+  rest = (length answer under numbersRoom says noRoom) ∷ []
+
+  -- a rule of opening that is broken
+  pub refused-by : (n : ℕ) → n ≢ accepted → n ≡ first opens
+      → packOpened output answer n ≡ bytesOpening keys opens told done output answer
+  refused-by n h e =
+      settled-left (bytesFaults keys opens (length answer)) _ (packOpened output answer) n h
+      (first-here opens rest no-zero n h e ∙ rule-passes (keysFault keys) (opens ++ rest) right)
+
+  -- with too little room for the answer the other room no longer counts
+  pub no-answer : length answer < numbersRoom → (first opens ≡ accepted) ⊎ (first opens ≡ noRoom)
+      → packOpened output answer noRoom ≡ bytesOpening keys opens told done output answer
+  no-answer short (inl e) =
+      settled-left (bytesFaults keys opens (length answer)) _ (packOpened output answer) noRoom (omega arith)
+      (refused-at 0 rest short ∙ first-later opens rest no-zero (sym e)
+      ∙ rule-passes (keysFault keys) (opens ++ rest) right)
+  no-answer short (inr e) = refused-by noRoom (omega arith) (sym e)
+
+  -- what the opener came to
+  module _ (accepts : told .refusal ≡ accepted) {o : Opened} {out : List A} (lacks : ℕ)
+    (own : outcome o out ≡ settled opens (outcome told done) (λ n. outcome (refusedOpening lacks n) output)) where
+    number : o .refusal ≡ first opens
+    number = answer-number _ _ _ (λ (x : Outcome Opened A). x .answer .refusal) accepts (λ m. refl) own
+
+    pub refused-so : o .refusal ≢ accepted
+        → packOpened out answer (o .refusal) ≡ bytesOpening keys opens told done output answer
+    refused-so h =
+        ap (λ (x : Outcome Opened A). packOpened (x .buffer) answer (o .refusal))
+        (answer-left _ _ _ (λ (x : Outcome Opened A). x .answer .refusal) accepts (λ m. refl) own h)
+        ∙ refused-by (o .refusal) h number
+
+    pub opened-so : {numbers : List ℕ} → o .refusal ≡ accepted → numbersRoom ≤ length answer
+        → numbers ≡ put answer 0 (answerNumbers o)
+        → packOpened out numbers accepted ≡ bytesOpening keys opens told done output answer
+    opened-so z room e =
+        ap (λ (l : List ℕ). packOpened out l accepted) (e ∙ put-placed answer 0 (answerNumbers o) room)
+        ∙ ap (λ (x : Outcome Opened A). packOpened (x .buffer) (placed answer 0 (answerNumbers (x .answer))) accepted)
+        (answer-done _ _ _ (λ (x : Outcome Opened A). x .answer .refusal) accepts (λ m. refl) own z)
+        ∙ settled-done (bytesFaults keys opens (length answer)) _ (packOpened output answer)
+        (all-right rest (room, tt) ∙ first-later opens rest no-zero (sym z ∙ number)
+        ∙ rule-passes (keysFault keys) (opens ++ rest) right)
+
+-- a room is enough, or it is 19
+pub room-or-not : (needed room : ℕ)
+    → (first (roomFaults needed room) ≡ accepted) ⊎ (first (roomFaults needed room) ≡ noRoom)
+room-or-not needed room = go (ltb room needed) refl
+  where
+    go : (b : Bool) → ltb room needed ≡ b
+        → (first (roomFaults needed room) ≡ accepted) ⊎ (first (roomFaults needed room) ≡ noRoom)
+    go true more = inr (sym (refused-at 0 (roomFaults needed room) (ltb-true room needed more)))
+    go false fits = inl (sym (all-right (roomFaults needed room) (ltb-false room needed fits, tt)))
+
+-- ---- opened as samples
 
 -- no rule of opening has the number of a call that isn't refused
-numbered-open : (cipher : Cipher) (ring : List (List ℕ)) (file : List ℕ) (room : ℕ)
+pub numbered-open : (cipher : Cipher) (ring : List (List ℕ)) (file : List ℕ) (room : ℕ)
     → T (numbered (openFaults cipher ring file room))
 unfolding openFaults keyedFaults fileFaults faultsFromKey faultsFromSamples
 numbered-open cipher ring file room = tt
-
-module _ (file keys : List ℕ) (samples answer : ℕ) (right : length keys ≡ keysBytes) where
-  abbrev cipher : Cipher
-  cipher = cipherIn file
-
-  abbrev ring : List (List ℕ)
-  ring = ringIn (ringsOf keys) file
-
-  -- opening's own refusals
-  pub opening-refuses : (n : ℕ) → n ≢ accepted → n ≡ first (openFaults cipher ring file samples)
-      → n ≡ first (packOpenFaults file keys samples answer)
-  opening-refuses n h e =
-      first-here (openFaults cipher ring file samples) _ (numbered-open cipher ring file samples) n h e
-      ∙ rule-passes (keysFault keys) _ right
-
-  pub opening-passes : accepted ≡ first (openFaults cipher ring file samples) → numbersRoom ≤ answer
-      → accepted ≡ first (packOpenFaults file keys samples answer)
-  opening-passes e room =
-      all-right ((answer under numbersRoom says noRoom) ∷ []) (room, tt)
-      ∙ first-later (openFaults cipher ring file samples) _ (numbered-open cipher ring file samples) e
-      ∙ rule-passes (keysFault keys) _ right
-
-  -- with too little room for the answer the samples' room no longer counts
-  pub file-refuses : (n : ℕ) → n ≢ accepted → n ≡ first (keyedFaults cipher ring file)
-      → n ≡ first (packOpenFaults file keys samples answer)
-  unfolding openFaults
-  file-refuses n h e = opening-refuses n h (first-here (keyedFaults cipher ring file) _
-      (keyed-numbered cipher ring file) n h e)
-
-  pub file-passes : accepted ≡ first (keyedFaults cipher ring file) → answer < numbersRoom
-      → noRoom ≡ first (packOpenFaults file keys samples answer)
-  unfolding openFaults
-  file-passes e short = go (ltb samples (sampleCount cipher file)) refl
-    where
-      later : first ((sampleCount cipher file over samples says noRoom) ∷ []) ≡ first
-          (openFaults cipher ring file samples)
-      later = first-later (keyedFaults cipher ring file) _ (keyed-numbered cipher ring file) e
-
-      go : (b : Bool) → ltb samples (sampleCount cipher file) ≡ b
-          → noRoom ≡ first (packOpenFaults file keys samples answer)
-      go true more =
-          opening-refuses noRoom (omega arith)
-          (refused-at 0 ((sampleCount cipher file over samples says noRoom) ∷ []) (ltb-true samples _ more) ∙ later)
-      go false fits =
-          refused-at 0 ((answer under numbersRoom says noRoom) ∷ []) short
-          ∙ first-later (openFaults cipher ring file samples) _ (numbered-open cipher ring file samples)
-          (all-right ((sampleCount cipher file over samples says noRoom) ∷ []) (ltb-false samples _ fits, tt) ∙ later)
-          ∙ rule-passes (keysFault keys) _ right

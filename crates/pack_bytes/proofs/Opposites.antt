@@ -15,7 +15,7 @@ use Rattle.pack.proofs.AcceptedFiles.{samples-counted}
 use Rattle.pack.proofs.Opposites.{front-at, good-opposite, given-good}
 use Rattle.pack.proofs.Theorems.{keyed-shown}
 use Rattle.survey_bytes.specs.Calls.{answerNumbers, numbersRoom}
-use Rattle.pack_bytes.specs.{Calls.PackOpened, Calls.packOpened, Calls.packOpenFaults, Calls.packOpen}
+use Rattle.pack_bytes.specs.{Calls.PackOpened, Calls.packOpened, Calls.bytesFaults, Calls.packOpen}
 use Rattle.pack_bytes.specs.Opposites.{PackOpposites}
 
 module _ (file keys : List ℕ) (samples : List ℤ) (answer : List ℕ)
@@ -28,15 +28,15 @@ module _ (file keys : List ℕ) (samples : List ℤ) (answer : List ℕ)
 
   done : packOpen file keys samples answer ≡ packOpened (placed samples 0 run) (placed answer 0 numbers) accepted
   unfolding packOpen
-  done = answer-done _ _ _ (λ (o : PackOpened). o .number) refl (λ n. refl) refl taken
+  done = answer-done _ _ _ (λ (o : PackOpened ℤ). o .number) refl (λ n. refl) refl taken
 
   right : AllRight (fileFaults (cipherIn file) file)
   unfolding packOpen openFaults keyedFaults fileFaults faultsFromKey faultsFromSamples
   right =
-      let all = none-wrong (packOpenFaults file keys (length samples) (length answer)) tt
-      (sym (settled-number _ _ _ (λ (o : PackOpened). o .number) refl (λ n. refl)) ∙ taken) in
       let cipher = cipherIn file in
       let ring = ringIn (ringsOf keys) file in
+      let all = none-wrong (bytesFaults keys (openFaults cipher ring file (length samples)) (length answer)) tt
+      (sym (settled-number _ _ _ (λ (o : PackOpened ℤ). o .number) refl (λ n. refl)) ∙ taken) in
       let own =
       right-both (openFaults cipher ring file (length samples)) ((length answer under numbersRoom says noRoom) ∷ [])
       (all .1) .0 in
@@ -46,15 +46,15 @@ module _ (file keys : List ℕ) (samples : List ℤ) (answer : List ℕ)
 
   counted : getD (packOpen file keys samples answer .answer) 0 0 ≡ length run
   unfolding placed
-  counted = ap (λ (o : PackOpened). getD (o .answer) 0 0) done ∙ sym (samples-counted (cipherIn file) (ringIn
+  counted = ap (λ (o : PackOpened ℤ). getD (o .answer) 0 0) done ∙ sym (samples-counted (cipherIn file) (ringIn
       (ringsOf keys) file) file right)
 
-  written-good : (i : ℕ) → i < length run → Good (getD (packOpen file keys samples answer .samples) i (pos 0))
+  written-good : (i : ℕ) → i < length run → Good (getD (packOpen file keys samples answer .written) i (pos 0))
   written-good i h =
-      subst Good (sym (ap (λ (o : PackOpened). getD (o .samples) i (pos 0)) done ∙ front-at samples run i h))
+      subst Good (sym (ap (λ (o : PackOpened ℤ). getD (o .written) i (pos 0)) done ∙ front-at samples run i h))
       (given-good (cipherIn file) (ringIn (ringsOf keys) file) file i)
 
 pub pack-opposites : (file keys : List ℕ) → PackOpposites file keys
 pack-opposites file keys samples answer i taken h =
-    good-opposite (getD (packOpen file keys samples answer .samples) i (pos 0))
+    good-opposite (getD (packOpen file keys samples answer .written) i (pos 0))
     (written-good file keys samples answer taken i (omega (arith, counted file keys samples answer taken)))

@@ -21,7 +21,7 @@ use Rattle.pack.proofs.{Cuts.NoFour, Cuts.lacks-behind, Theorems.keyed-shown}
 use Rattle.record_bytes.specs.Written.{Written, wrote}
 use Rattle.survey_bytes.specs.Calls.{numbersRoom, packSurvey, packLacks, loopNumbers, packLoopsFaults, packLoops}
 use Rattle.survey_bytes.proofs.Theorems.{loops-of-parts}
-use Rattle.pack_bytes.specs.{Calls.PackOpened, Calls.packOpened, Calls.packOpenFaults, Calls.packOpen}
+use Rattle.pack_bytes.specs.{Calls.PackOpened, Calls.packOpened, Calls.bytesFaults, Calls.packOpen}
 use Rattle.pack_bytes.specs.{Calls.packSeal, Told.ToldAlike}
 
 pub pack-open-leaves : (file keys : List ℕ) (samples : List ℤ) (answer : List ℕ)
@@ -39,10 +39,10 @@ survey-told : (file keys : List ℕ) (samples : List ℤ) (answer : List ℕ)
     → packSurvey file answer ≡ outcome accepted (packOpen file keys samples answer .answer)
 unfolding packOpen packSurvey openFaults keyedFaults fileFaults faultsFromKey faultsFromSamples
 survey-told file keys samples answer z =
-    let right = none-wrong (packOpenFaults file keys (length samples) (length answer)) tt
-    (sym (settled-number _ _ _ (λ (o : PackOpened). o .number) refl (λ n. refl)) ∙ z) in
     let cipher = cipherIn file in
     let ring = ringIn (ringsOf keys) file in
+    let right = none-wrong (bytesFaults keys (openFaults cipher ring file (length samples)) (length answer)) tt
+    (sym (settled-number _ _ _ (λ (o : PackOpened ℤ). o .number) refl (λ n. refl)) ∙ z) in
     let both =
     right-both (openFaults cipher ring file (length samples)) ((length answer under numbersRoom says noRoom) ∷ [])
     (right .1) in
@@ -52,8 +52,8 @@ survey-told file keys samples answer z =
     sym
     (done-if _ _ _
     (right-after (fileFaults (cipherIn file) file) (roomFaults numbersRoom (length answer)) (own .0) (both .1 .0, tt)))
-    ∙ ap (λ (o : PackOpened). outcome accepted (o .answer))
-    (sym (answer-done _ _ _ (λ (o : PackOpened). o .number) refl (λ n. refl) refl z))
+    ∙ ap (λ (o : PackOpened ℤ). outcome accepted (o .answer))
+    (sym (answer-done _ _ _ (λ (o : PackOpened ℤ). o .number) refl (λ n. refl) refl z))
 
 loops-told : (file keys run : List ℕ) (before : ℕ) → packLoops file run before .number ≡ accepted
     → take (packLoops file run before .count) (packLoops file run before .buffer)
@@ -97,7 +97,7 @@ cut-open file keys samples answer right =
     let rest : List Fault = (length answer under numbersRoom says noRoom) ∷ [] in
     subst (λ (n : ℕ). CutsLack n (surveyingFile file .lacks))
     (sym
-    (settled-number _ _ _ (λ (o : PackOpened). o .number) refl (λ n. refl)
+    (settled-number _ _ _ (λ (o : PackOpened ℤ). o .number) refl (λ n. refl)
     ∙ sym (rule-passes (length keys unlike keysBytes says badKey) _ right)
     ∙ ap (λ (l : List Fault). first (l ++ rest)) (append-assoc (fileFaults cipher file) tag some)
     ∙ ap first (append-assoc (fileFaults cipher file) (tag ++ some) rest)))

@@ -5,7 +5,7 @@ use lib.{IntN.ℤ, ListN.length}
 use Rattle.octets.specs.Buffers.{placed}
 use Rattle.refusals.specs.Numbers.{accepted, badKey, noRoom}
 use Rattle.refusals.specs.Rules.{_under_, _unlike_, Fault, _says_, settled}
-use Rattle.pack.specs.{Calls.acceptedOpening, Layout.Parts, Places.partsOf}
+use Rattle.pack.specs.{Calls.acceptedOpening, Layout.Parts, Places.partsOf, declared.Opened.Opened}
 use Rattle.pack.specs.Ciphers.{cipherOf, picked, cipherIn, ringIn}
 use Rattle.pack.specs.{Demand2.fileOf, Faults.ownCount, Faults.openFaults, Faults.partNameFaults, Faults.otherFaults}
 use Rattle.pack.specs.Faults.{roomFaults}
@@ -17,30 +17,34 @@ use Rattle.survey_bytes.specs.Calls.{answerNumbers, numbersRoom}
 abbrev pub keysFault : List ℕ → Fault
 keysFault keys = length keys unlike keysBytes says badKey
 
--- ---- opening
+-- ---- opening, as samples or as anything else
 
--- the number, the samples and the seven numbers
-pub record PackOpened : Type 0 where
+-- the number, what is written and the seven numbers
+pub record PackOpened (A : Type 0) : Type 0 where
   pub number : ℕ
-  pub samples : List ℤ
+  pub written : List A
   pub answer : List ℕ
 
-abbrev pub packOpened : List ℤ → List ℕ → ℕ → PackOpened
-packOpened samples answer number = record { number = number; samples = samples; answer = answer }
+abbrev pub packOpened : {A : Type 0} → List A → List ℕ → ℕ → PackOpened A
+packOpened written answer number = record { number = number; written = written; answer = answer }
 
--- the keys, then the file's own rules, its tag and room for its samples, then room for the seven numbers
-abbrev pub packOpenFaults : List ℕ → List ℕ → ℕ → ℕ → List Fault
-packOpenFaults file keys samples answer =
-    keysFault keys
-    ∷ (openFaults (cipherIn file) (ringIn (ringsOf keys) file) file samples
-    ++ ((answer under numbersRoom says noRoom) ∷ []))
+-- the keys, then what opening has against the file and the room for what is written, then room for the seven numbers
+abbrev pub bytesFaults : List ℕ → List Fault → ℕ → List Fault
+bytesFaults keys opens answer = keysFault keys ∷ (opens ++ ((answer under numbersRoom says noRoom) ∷ []))
 
-unfoldable pub packOpen : List ℕ → List ℕ → List ℤ → List ℕ → PackOpened
+-- `told` is what is answered, and `done` the output with what is written
+abbrev pub bytesOpening : {A : Type 0} → List ℕ → List Fault → Opened → List A → List A → List ℕ → PackOpened A
+bytesOpening keys opens told done output answer =
+    settled (bytesFaults keys opens (length answer)) (packOpened done (placed answer 0 (answerNumbers told)) accepted)
+    (packOpened output answer)
+
+-- as samples
+unfoldable pub packOpen : List ℕ → List ℕ → List ℤ → List ℕ → PackOpened ℤ
 packOpen file keys samples answer =
-    settled (packOpenFaults file keys (length samples) (length answer))
-    (packOpened (placed samples 0 (partsOf (cipherIn file) (ringIn (ringsOf keys) file) file .samples))
-    (placed answer 0 (answerNumbers (acceptedOpening (cipherIn file) file))) accepted)
-    (packOpened samples answer)
+    let cipher = cipherIn file in
+    let ring = ringIn (ringsOf keys) file in
+    bytesOpening keys (openFaults cipher ring file (length samples)) (acceptedOpening cipher file)
+    (placed samples 0 (partsOf cipher ring file .samples)) samples answer
 
 -- ---- sealing
 

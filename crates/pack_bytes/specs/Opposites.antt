@@ -9,4 +9,4 @@ use Rattle.pack_bytes.specs.Calls.{packOpen}
 abbrev pub PackOpposites : List ℕ → List ℕ → Type 0
 PackOpposites file keys =
     (samples : List ℤ) (answer : List ℕ) (i : ℕ) → let o = packOpen file keys samples answer in
-    o .number ≡ accepted → i < getD (o .answer) 0 0 → mag (negℤ (getD (o .samples) i (pos 0))) < 32768
+    o .number ≡ accepted → i < getD (o .answer) 0 0 → mag (negℤ (getD (o .written) i (pos 0))) < 32768

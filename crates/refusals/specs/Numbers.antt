@@ -100,6 +100,10 @@ cutInLoops = 33
 abbrev pub lowestSample : ℕ
 lowestSample = 34
 
+-- stereo: an odd number of samples
+abbrev pub oddSamples : ℕ
+oddSamples = 35
+
 -- receiver: opening of its own session with another length
 abbrev pub otherLength : ℕ
 otherLength = 36

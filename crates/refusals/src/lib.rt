@@ -54,6 +54,8 @@ pub const CUT_IN_LOOPS: u8 = 33;
 
 pub const LOWEST_SAMPLE: u8 = 34;
 
+pub const ODD_SAMPLES: u8 = 35;
+
 pub const OTHER_LENGTH: u8 = 36;
 
 pub const WRONG_TAG: u8 = 38;

@@ -129,17 +129,9 @@ pub fn seal(
     let loop_at = body_at + 2 * samples.len();
     let tag_at = loop_at + 1 + 4 * loops.len();
     write_front(output, name, key, value, samples.len());
-    bodies::write(
-        kind,
-        ring,
-        second,
-        third,
-        key,
-        value,
-        samples,
-        output,
-        body_at,
-    );
+    let begun = bodies::begin(kind, ring, second, third, key, value);
+    let cipher = begun.cipher;
+    chunks::write_samples(cipher, samples, output, body_at);
     write_loops(output, loop_at, loops);
     write_end(kind, third, key, value, output, body_at, loop_at, tag_at);
     let tag = pack::tag_length(kind);

@@ -10,13 +10,14 @@ ghost use Rattle.enocoro_bytes.specs.Calls.{enocoroMake, enocoroEncipher};
 ghost use Rattle.triad_bytes.specs.Calls.{triadMake, triadEncipher, triadTag};
 ghost use Rattle.survey_bytes.specs.Calls.{packSurvey, packLacks, packLoops};
 ghost use Rattle.pack_bytes.specs.Calls.{packOpened, packOpen, packSeal};
+ghost use Rattle.stereo_bytes.specs.Calls.{packOpenStereo};
 ghost use Rattle.sender_bytes.specs.Calls.{senderMake, senderBegin, senderSend, senderHear};
 ghost use Rattle.receiver_bytes.specs.Calls.{receiverMake, reception, receiverHear};
 ghost use Rattle.link_status.specs.Calls.{senderStatus, receiverStatus};
 ghost use Rattle.semivrakh.specs.Version.{version};
 
 // Ten thousand times the version's first number, a hundred times its second, and its third.
-const VERSION: u32 = 700;
+const VERSION: u32 = 800;
 
 #[no_mangle]
 pub extern "C" fn semivrakh_version() -> u32
@@ -106,6 +107,19 @@ pub extern "C" fn semivrakh_pack_open(
         ≡ packOpen (now (file .entry)) (now (keys .entry)) (now (samples .entry)) (now (answer .entry)) ⌝ }
 {
     pack_bytes::open(file, keys, samples, answer)
+}
+
+#[no_mangle]
+pub extern "C" fn semivrakh_pack_open_stereo(
+    file: &[u8],
+    keys: &[u8],
+    frames: &mut [f32],
+    answer: &mut [usize],
+) -> u8
+    ensures { λ r. ⌜ packOpened (now (frames .exit)) (now (answer .exit)) r
+        ≡ packOpenStereo (now (file .entry)) (now (keys .entry)) (now (frames .entry)) (now (answer .entry)) ⌝ }
+{
+    stereo_bytes::open(file, keys, frames, answer)
 }
 
 #[no_mangle]

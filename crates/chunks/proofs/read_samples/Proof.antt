@@ -1,14 +1,16 @@
 -- `chunks::read_samples` meets its contract: after each turn the samples of the first `at` bytes are in place, and the
 -- cipher has gone as far.
-use mathlib.Core.{Path._≡_, Path.refl, Path.sym, Path.ap, Path._∙_, List.List}
+use mathlib.Core.{Path._≡_, Path.refl, Path.sym, Path.ap, Path.ap₂, Path._∙_, List.List}
 use Prim.Native.Nat.{ℕ, _+_, _-_, _%_, _≤_}
 use native.Mathlib.Omega.{arith}
-use lib.{ListN.length, Seq.take-all}
-use Rattle.octets.specs.{Buffers.put, Stream.Keystream, Stream.from, Stream.enciphered}
-use Rattle.octets.proofs.{Buffers.put-none, Streams.from-zero, Streams.from-from}
-use Rattle.samples.specs.Words.{wordOf, wordsOf}
-use Rattle.samples.proofs.Bodies.{length-read, read, nothing-read, further}
-use Rattle.chunks.specs.Ahead.{ahead}
+use lib.{IntN.ℤ, ListN.length}
+use Rattle.octets.specs.Stream.{Keystream, from}
+use Rattle.octets.proofs.Streams.{from-zero}
+use Rattle.refusals.specs.Outcome.{outcome}
+use Rattle.refusals.proofs.Settled.{done-if, left-at}
+use Rattle.samples.specs.Words.{wordOf}
+use Rattle.samples.proofs.Bodies.{read, nothing-read, further, all-read}
+use Rattle.chunks.specs.Ahead.{ahead, readingOn}
 use Rattle.chunks.proofs.read_samples.Statement.{statement}
 use Rattle.chunks.proofs.read_samples.Tie as tie
 
@@ -22,11 +24,8 @@ abbrev μ-loop : tie.MeasureT-loop
 μ-loop body output₀ n cipher₀ at₀ output cipher at = length body - at
 
 returns : tie.Need-returns Inv-loop μ-loop
-returns c =
-    let p = c .before .before .args in
-    let k : Keystream = ahead (p .start) in
-    put-none (p .output .now) 0 (wordsOf (enciphered k (p .body .now)))
-    (omega (arith, length-read wordOf k (p .body .now)))
+unfolding readingOn
+returns c = left-at _ _ _ 0 tt (omega arith)
 
 loop-holds : tie.Need-loop-holds Inv-loop μ-loop
 loop-holds c =
@@ -39,32 +38,26 @@ loop-again c =
     let m = c .before in
     let l = m .before .before .before .loop in
     let p = m .before .before .before .before .before .before .args in
-    let k : Keystream = ahead (p .start) in (
-      omega arith,
-      omega arith,
-      m .read-chunk .kept .1 .1 .0 ∙ l .inv .2,
-      m .read-chunk .ensures .0 ∙ ap (from 1024) (l .inv .3) ∙ from-from 1024 (l .at) k,
-      m .read-chunk .ensures .1
-          ∙ further wordOf k _ (p .body .now) (p .output .now) (l .output) (l .at) 1024 (omega arith) (omega arith)
-          (omega arith) (l .inv .3) (l .inv .4),
-    )
+    let more = further wordOf (ahead (p .start)) (p .body .now) (p .output .now) (l .output) (l .at) 1024 (omega arith)
+    (omega arith) (omega arith) (l .inv .3) (l .inv .4) (m .read-chunk .ensures .0) (m .read-chunk .ensures .1) in
+    (omega arith, omega arith, m .read-chunk .kept .1 .1 .0 ∙ l .inv .2, more .0, more .1)
 
 same-length : tie.Need-same-length Inv-loop μ-loop
 same-length c = let m = c .before in m .read-chunk2 .kept .1 .1 .0 ∙ m .before .before .before .loop .inv .2
 
 returns-2 : tie.Need-returns-2 Inv-loop μ-loop
+unfolding readingOn
 returns-2 c =
     let m = c .before in
     let l = m .before .before .before .loop in
     let p = m .before .before .before .before .before .before .args in
     let k : Keystream = ahead (p .start) in
     let n : ℕ = length (p .body .now) in
-    let whole : l .at + n % 1024 ≡ n = omega arith in
-    m .read-chunk2 .ensures .1
-    ∙ further wordOf k _ (p .body .now) (p .output .now) (l .output) (l .at) (n % 1024) (omega arith) (omega arith)
-    (omega arith) (l .inv .3) (l .inv .4)
-    ∙ ap (read wordOf k (p .body .now) (p .output .now)) whole
-    ∙ ap (λ (b : List ℕ). put (p .output .now) 0 (wordsOf (enciphered k b))) (take-all n (p .body .now) (omega arith))
+    let all = further wordOf k (p .body .now) (p .output .now) (l .output) (l .at) (n % 1024) (omega arith)
+    (omega arith) (omega arith) (l .inv .3) (l .inv .4) (m .read-chunk2 .ensures .0) (m .read-chunk2 .ensures .1) in
+    ap₂ (λ (q : Keystream) (d : List ℤ). outcome q d) (all .0 ∙ ap (λ (x : ℕ). from x k) (omega arith))
+    (all .1 ∙ all-read wordOf k (p .body .now) (p .output .now) (l .at + n % 1024) (omega arith) (omega arith))
+    ∙ done-if _ _ _ (omega arith, tt)
 
 pub read-samples-spec : {M : Type 1} → statement M
 read-samples-spec =

@@ -8,10 +8,10 @@ use lib.ListN.{length}
 use Rattle.refusals.specs.{Numbers.accepted, Numbers.badKeyCount, Outcome.Outcome, Outcome.outcome}
 use Rattle.refusals.specs.Rules.{first}
 use Rattle.refusals.proofs.Settled.{left-at, settled-left, settled-done, answer-number, answer-done, answer-left}
-use Rattle.pack.specs.{Calls.sealingPack, Calls.sealingFile, Ciphers.picked, Ciphers.rings, Layout.parts}
+use Rattle.pack.specs.{Calls.sealingPack, Calls.sealingFile, Ciphers.picked, Layout.parts}
 use Rattle.pack.specs.{Demand2.fileOf, declared.Sealed.Sealed}
-use Rattle.rings.specs.Ring.{ringAt, ringsOf, enocoroPlace, triadPlace}
-use Rattle.rings.proofs.Keys.{whole}
+use Rattle.rings.specs.Ring.{ringsOf}
+use Rattle.rings.proofs.Keys.{all-rings}
 use Rattle.record_bytes.specs.Written.{wrote}
 use Rattle.pack_bytes.specs.Calls.{packSealFaults, packSeal}
 use Rattle.pack_bytes.proofs.{Sealing.sealer-decides, Sealing.name-refuses, Sealing.count-refuses}
@@ -31,13 +31,12 @@ own s =
     let k = r .before .before .before .before .before .before in
     let t = k .before .before in
     let p = t .before .before .before .before .before .before .before .args in
-    let keys = whole (p .keys .now) (k .keys-in .ensures) (t .before .if1 .left) in
-    let one = r .before .before .before .before .trivium-ring .ensures ∙ ap (ringAt 10 0) keys in
-    let two = r .before .before .enocoro-ring .ensures ∙ ap (ringAt 16 enocoroPlace) keys in
-    let three = r .triad-ring .ensures ∙ ap (ringAt 16 triadPlace) keys in
+    let are = all-rings (p .keys .now) (k .keys-in .ensures) (t .before .if1 .left)
+    (r .before .before .before .before .trivium-ring .ensures) (r .before .before .enocoro-ring .ensures)
+    (r .triad-ring .ensures) in
     let kind = s .before .before .kind-of .ensures in
     s .seal .ensures
-    ∙ (λ i. sealingFile (kind i) (rings (one i) (two i) (three i))
+    ∙ (λ i. sealingFile (kind i) (are i)
     (parts (p .name .now) (p .key) (p .value .now) (p .samples .now) (p .loops .now)) (p .output .now))
 
 returns : tie.Need-returns

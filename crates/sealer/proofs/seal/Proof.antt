@@ -14,6 +14,7 @@ use Rattle.refusals.specs.{Numbers.accepted, Outcome.outcome, Rules.first}
 use Rattle.refusals.proofs.{Faults.none-wrong, Settled.done-if, Settled.settled-done, Settled.settled-left}
 use Rattle.samples.specs.Words.{bytesOfAll}
 use Rattle.samples.proofs.Words.{length-bytes}
+use Rattle.chunks.specs.Ahead.{ahead}
 use Rattle.pack.specs.{Calls.sealingPack, Faults.sealFaults, declared.Sealed.Sealed}
 use Rattle.pack.specs.Ciphers.{cipherOf, rings, ringFor}
 use Rattle.pack.specs.Layout.{Parts, parts, fours, keyNamed, layout, nameSection, keySection, loopSection, tagLength}
@@ -21,7 +22,7 @@ use Rattle.pack.specs.{Layout.tagWidths, Layout.associated, Layout.tagSection, 
 use Rattle.pack.specs.declared.Kind.the-variants.{Trivium, Enocoro, Triad}
 use Rattle.sealer.specs.Tags.{tagRow}
 use Rattle.pack.proofs.{LaidFiles.length-layout, Picking.short-value}
-use Rattle.bodies.specs.Bodies.{writing}
+use Rattle.bodies.specs.Bodies.{Ready, beginning}
 use Rattle.sealer.proofs.seal.Statement.{statement}
 use Rattle.sealer.proofs.seal.Tie as tie
 
@@ -71,10 +72,10 @@ returns c = settled-left _ _ _ _ (c .if1 .taken) (found (c .before))
 abbrev passed : tie.After-write-front → tie.Else1
 passed c = c .before .before
 
-abbrev front : tie.After-write → tie.After-write-front
-front c = c .before .before .before .before
+abbrev front : tie.After-write-samples → tie.After-write-front
+front c = c .before .before .before .before .before
 
-abbrev body-of : tie.After-write-loops → tie.After-write
+abbrev body-of : tie.After-write-loops → tie.After-write-samples
 body-of c = c .before .before .before .before
 
 write-front-requires : tie.Need-write-front-requires
@@ -83,7 +84,7 @@ write-front-requires c κs = omega (arith, known (c .before))
 write-loops-requires : tie.Need-write-loops-requires
 write-loops-requires c κs =
     let w = c .before .before .before in
-    omega (arith, known (passed (front w)), w .write .kept .1 .1 .1 .1 .1 .1 .1 .0, front w .write-front .kept .0)
+    omega (arith, known (passed (front w)), w .write-samples .kept .1 .1 .0, front w .write-front .kept .0)
 
 write-end-requires : tie.Need-write-end-requires
 write-end-requires c κs =
@@ -98,7 +99,7 @@ write-end-requires c κs =
         arith,
         k,
         l .write-loops .kept .0,
-        w .write .kept .1 .1 .1 .1 .1 .1 .1 .0,
+        w .write-samples .kept .1 .1 .0,
         front w .write-front .kept .0,
       ),
     )
@@ -165,15 +166,17 @@ module _ (cipher : Cipher) (ring : List (List ℕ)) (p : Parts) where
         loops-long,
       )
 
-  -- the first three
-  written : (d : List ℕ) {e₁ e₂ e₃ : List ℕ} → last ≤ length d → e₁ ≡ put d 0 start → e₂ ≡ put e₁ place body
+  -- the first three; the body is under the keystream that was begun
+  written : (d : List ℕ) {k : Keystream} {e₁ e₂ e₃ : List ℕ} → last ≤ length d → k ≡ stream → e₁ ≡ put d 0 start
+      → e₂ ≡ put e₁ place (enciphered k plain)
       → e₃ ≡ put e₂ end (loopSection p)
       → e₃ ≡ put d 0 three
-  written d room p₁ p₂ p₃ =
+  written d {e₁ = e₁} room under p₁ p₂ p₃ =
       let both = length-append start body in
       p₃
       ∙ puts-on d 0 (start ++ body) (loopSection p)
-      (p₂ ∙ puts-on d 0 start body p₁ (omega (arith, start-long)) (omega (arith, start-long, body-long)))
+      (p₂ ∙ ap (λ (q : Keystream). put e₁ place (enciphered q plain)) under
+      ∙ puts-on d 0 start body p₁ (omega (arith, start-long)) (omega (arith, start-long, body-long)))
       (omega (arith, both, start-long, body-long))
       (omega (arith, both, start-long, body-long, loops-long))
 
@@ -243,7 +246,7 @@ abbrev lent-to : tie.After-tag-length → tie.Else1
 lent-to c = passed (front (body-of (c .before .before .before .before .before .before .before)))
 
 returns-2 : tie.Need-returns-2
-unfolding sealingPack writing
+unfolding sealingPack beginning
 returns-2 c =
     let w = c .before .before .before in
     let l = w .before .before .before .before in
@@ -255,9 +258,11 @@ returns-2 c =
     let k = known e in
     let headed = ap (λ (n : ℕ). put (a .output .now) 0
     (nameSection p ++ ((suc n ∷ p .keyNumber ∷ p .value) ++ row (fours 1) (length (p .samples) ∷ [])))) (k .1) in
-    let three = written (cipher s) (ring s) p (a .output .now) (omega (arith, k)) (front b .write-front .ensures
+    let under : ahead (b .before .before .begin .result .cipher) ≡ stream (cipher s) (ring s) p =
+    ap (λ (r : Ready). r .stream) (b .before .before .begin .ensures ∙ sym (done-if _ _ _ (k .3, (k .1, tt)))) in
+    let three = written (cipher s) (ring s) p (a .output .now) (omega (arith, k)) under (front b .write-front .ensures
     ∙ headed)
-    (b .write .ensures ∙ sym (done-if _ _ _ (k .3, (k .1, tt)))) (l .write-loops .ensures) in
+    (b .write-samples .ensures) (l .write-loops .ensures) in
     ap₂ (λ (n : ℕ) (d : List ℕ). outcome {A = Sealed} (record { refusal = accepted; length = n }) d)
     (omega (arith, length-layout (cipher s) (ring s) p, c .tag-length .ensures))
     (finished (cipher s) (ring s) p (a .output .now) _ (omega (arith, k)) three (omega (arith, k))
@@ -271,6 +276,6 @@ seal-spec =
     tie.close
     (tie.spec (λ c κs. search needs) returns (λ c. omega (arith, known c)) (λ c. omega (arith, known c))
     (λ c. search needs) (λ c. omega (arith, known c)) (λ c. omega (arith, known c)) (λ c. search needs)
-    (λ c. omega (arith, known c)) write-front-requires (λ c κs. tt) write-loops-requires write-end-requires
+    (λ c. omega (arith, known c)) write-front-requires (λ c κs. search needs) (λ c κs. tt) write-loops-requires write-end-requires
     (λ c κs. search needs) (λ c. omega (arith, known (lent-to c), c .tag-length .ensures))
     (λ c. search needs) returns-2)

@@ -1,0 +1,29 @@
+-- Opening a pack as frames of floats: what the call owes, for every input.
+use Prim.Native.Nat.{ℕ, _%_}
+use mathlib.Core.List.{List, [], _∷_, _++_}
+use lib.{Ieee.Float, ListN.length}
+use Rattle.octets.specs.{Buffers.placed, Stream.Cipher}
+use Rattle.refusals.specs.{Numbers.oddSamples, Outcome.Outcome, Outcome.outcome}
+use Rattle.refusals.specs.Rules.{_unlike_, Fault, _says_, settled}
+use Rattle.stereo.specs.Frames.{floatsOf}
+use Rattle.pack.specs.{Calls.refusedOpening, Calls.acceptedOpening, Calls.lacksOf, Faults.keyedFaults, Faults.roomFaults}
+use Rattle.pack.specs.{Ciphers.cipherIn, Ciphers.Rings, Ciphers.ringIn, Places.sampleCount, Places.partsOf}
+use Rattle.pack.specs.declared.Opened.{Opened}
+
+-- 35, if the last frame would lack its right float, and then 19, for as many floats as samples
+abbrev pub framesFaults : ℕ → ℕ → List Fault
+framesFaults samples room = (samples % 2 unlike 0 says oddSamples) ∷ roomFaults samples room
+
+-- behind all that a pack can have wrong
+unfoldable pub stereoFaults : Cipher → List (List ℕ) → List ℕ → ℕ → List Fault
+stereoFaults cipher ring file room = keyedFaults cipher ring file ++ framesFaults (sampleCount cipher file) room
+
+unfoldable pub openingStereo : Cipher → List (List ℕ) → List ℕ → List Float → Outcome Opened Float
+openingStereo cipher ring file output =
+    settled (stereoFaults cipher ring file (length output))
+    (outcome (acceptedOpening cipher file) (placed output 0 (floatsOf (partsOf cipher ring file .samples))))
+    (λ number. outcome (refusedOpening (lacksOf cipher file) number) output)
+
+-- for callers, by the cipher that the file's key count picks
+abbrev pub openingStereoFile : Rings → List ℕ → List Float → Outcome Opened Float
+openingStereoFile r file output = openingStereo (cipherIn file) (ringIn r file) file output
