@@ -1,6 +1,6 @@
 -- What a call that opens a file knows by what was told to one who has keys: a refusal is passed on, a later rule lacks
 -- no byte, and of an accepted file the key section and the body stand where the answer says.
-use mathlib.Core.{Path._≡_, Path.sym, Path.ap, Path.subst, Path._∙_, Logic._≢_, List.List, List._++_}
+use mathlib.Core.{Path._≡_, Path.refl, Path.sym, Path.ap, Path.subst, Path._∙_, Logic._≢_, List.List, List._++_}
 use Prim.Native.Nat.{ℕ, _+_, _-_, _*_, _≤_}
 use native.Mathlib.Omega.{arith}
 use lib.{IntN.ℤ, ListN.length}
@@ -10,7 +10,7 @@ use Rattle.refusals.specs.{Numbers.accepted, Outcome.Outcome, Outcome.outcome}
 use Rattle.refusals.specs.Rules.{AllRight, Fault, first, Leaves, settled}
 use Rattle.refusals.specs.declared.Verdict.{Verdict}
 use Rattle.refusals.proofs.Faults.{none-wrong, right-after, verdict-right}
-use Rattle.refusals.proofs.Settled.{done-if, settled-done, settled-left, first-here, first-later}
+use Rattle.refusals.proofs.Settled.{done-if, settled-left, by-settled, first-here, first-later}
 use Rattle.samples.specs.Words.{wordsOf}
 use Rattle.pack.specs.Calls.{refusedOpening, acceptedOpening, lacksOf, inspecting, inspectingFile}
 use Rattle.pack.specs.Ciphers.{cipherOf, picked, cipherIn, Rings, ringIn}
@@ -26,8 +26,11 @@ module _ (r : Rings) (file : List ℕ) (told : Opened) (inspected : told ≡ ins
   abbrev faults : List Fault
   faults = keyedFaults (cipherIn file) (ringIn r file) file
 
-  found : told .refusal ≡ first faults
+  pub found : told .refusal ≡ first faults
   found = ap (λ (o : Opened). o .refusal) inspected ∙ inspect-refusal (cipherIn file) (ringIn r file) file
+
+  nothing-lacks : AllRight (fileFaults (cipherIn file) file) → 0 ≡ lacksOf (cipherIn file) file
+  nothing-lacks good = ap (λ (v : Verdict). v .lacks) (verdict-right _ good)
 
   -- what a call leaves of its output and answers, if it is refused
   abbrev pub left-as : {A : Type 0} → List A → ℕ → Outcome Opened A
@@ -44,6 +47,20 @@ module _ (r : Rings) (file : List ℕ) (told : Opened) (inspected : told ≡ ins
       refused)
       ∙ settled-left (faults ++ later) done (left-as output) _ refused
       (first-here faults later (keyed-numbered (cipherIn file) (ringIn r file) file) _ refused found)
+
+  -- what is lacking is told of any file, and nothing is of one that has no fault in itself
+  pub lacks-told : told .lacks ≡ lacksOf (cipherIn file) file
+  unfolding inspecting
+  lacks-told =
+      ap (λ (o : Opened). o .lacks) inspected
+      ∙ by-settled faults (acceptedOpening (cipherIn file) file) (refusedOpening (lacksOf (cipherIn file) file))
+      (λ (o : Opened). o .lacks ≡ lacksOf (cipherIn file) file)
+      (λ e.
+      nothing-lacks
+      (keyed-shown (cipherIn file) (ringIn r file) file
+      (none-wrong faults (keyed-numbered (cipherIn file) (ringIn r file) file) e)
+      .0))
+      (λ n e no. refl)
 
   -- ---- an accepted file
 
@@ -65,7 +82,7 @@ module _ (r : Rings) (file : List ℕ) (told : Opened) (inspected : told ≡ ins
         → lacks ≡ 0 → number ≢ accepted → number ≡ first later
         → outcome o output ≡ settled (faults ++ later) done (left-as output)
     refused-later later done output number {o} {lacks} e nothing numbered broken =
-        let none : 0 ≡ lacksOf (cipherIn file) file = ap (λ (v : Verdict). v .lacks) (verdict-right _ right) in
+        let none = nothing-lacks right in
         ap (λ (a : Opened). outcome a output)
         (lacking-so o lacks number e (lacksOf (cipherIn file) file) (omega arith))
         ∙ settled-left (faults ++ later) done (left-as output) number numbered

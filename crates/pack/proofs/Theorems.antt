@@ -4,15 +4,17 @@
 use Prim.Native.Nat.{ℕ, _*_, _<_, _≤_}
 use mathlib.Core.List.{List, [], _∷_, _++_, append-assoc}
 use mathlib.Core.Path.{_≡_, refl, sym, ap, ap₂, subst, _∙_}
-use mathlib.Core.Logic.{_≢_}
+use mathlib.Core.{Bool.Bool, Bool.true, Bool.false, Logic._≢_, Logic._⊎_, Logic.inl, Logic.inr}
 use native.Mathlib.Omega.{arith}
-use lib.{Dec.T, IntN.ℤ, ListN.length, ListN.getD, ListN.take, Seq.take-at, Seq.drop-at}
+use borrow.Author.Tests.{ltb-true, ltb-false}
+use lib.{Dec.T, Dec.ltb, IntN.ℤ, ListN.length, ListN.getD, ListN.take, Seq.take-at, Seq.drop-at}
 use Rattle.octets.specs.{Buffers.slice, Buffers.placed, Rows.row, Stream.Cipher, Stream.Keystream, Stream.enciphered}
 use Rattle.octets.proofs.{Buffers.take-placed, Numbers.Below}
 use Rattle.octets.proofs.Streams.{OfBytes, length-enciphered, enciphered-twice}
-use Rattle.refusals.specs.{Numbers.accepted, Outcome.Outcome, Outcome.outcome}
+use Rattle.refusals.specs.{Numbers.accepted, Numbers.noRoom, Outcome.Outcome, Outcome.outcome}
 use Rattle.refusals.specs.Rules.{AllRight, first, lacking, Leaves}
-use Rattle.refusals.proofs.Faults.{numbered, all-right, none-wrong, right-after, right-both, lacking-append, by-verdict}
+use Rattle.refusals.proofs.Faults.{numbered, all-right, none-wrong, right-after, right-both, refused-at}
+use Rattle.refusals.proofs.Faults.{lacking-append, by-verdict}
 use Rattle.refusals.proofs.Settled.{done-if, settled-number, settled-leaves, first-here}
 use Rattle.samples.specs.Words.{wordsOf, NoLowest, bytesOfAll}
 use Rattle.samples.proofs.Words.{length-bytes, bytes-of-words, bytes-kept}
@@ -26,7 +28,7 @@ use Rattle.pack.specs.declared.Sealed.{Sealed}
 use Rattle.pack.specs.Calls.{refusedOpening, acceptedOpening, lacksOf, surveying, inspecting, openingPack}
 use Rattle.pack.specs.Calls.{sealingPack}
 use Rattle.pack.specs.Faults.{faultsFromSamples, faultsFromKey, fileFaults, tagFaults, keyedFaults, openFaults}
-use Rattle.pack.specs.Faults.{sealFaults}
+use Rattle.pack.specs.Faults.{roomFaults, sealFaults}
 use Rattle.pack.specs.Layout.{Parts, Within, fours, keyNamed, nameSection, keySection, loopSection, laid}
 use Rattle.pack.specs.Layout.{LaidFrom, layout, tagSection}
 use Rattle.pack.specs.Places.{sampleCount, plainOf, partsOf, tagIn, tagPlace, tagDue}
@@ -47,6 +49,16 @@ pub keyed-numbered : (cipher : Cipher) (ring : List (List ℕ)) (file : List ℕ
     → T (numbered (keyedFaults cipher ring file))
 unfolding keyedFaults fileFaults faultsFromKey faultsFromSamples
 keyed-numbered cipher ring file = tt
+
+-- a room is enough, or it is 19
+pub room-or-not : (needed room : ℕ)
+    → (first (roomFaults needed room) ≡ accepted) ⊎ (first (roomFaults needed room) ≡ noRoom)
+room-or-not needed room = go (ltb room needed) refl
+  where
+    go : (b : Bool) → ltb room needed ≡ b
+        → (first (roomFaults needed room) ≡ accepted) ⊎ (first (roomFaults needed room) ≡ noRoom)
+    go true more = inr (sym (refused-at 0 (roomFaults needed room) (ltb-true room needed more)))
+    go false fits = inl (sym (all-right (roomFaults needed room) (ltb-false room needed fits, tt)))
 
 -- a file's tag is the one that is due
 abbrev pub Agrees : Cipher → List (List ℕ) → List ℕ → Type 0

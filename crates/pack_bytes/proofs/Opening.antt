@@ -1,11 +1,10 @@
 -- How the rules of opening on bytes come out: those of the file decide before any room, and both rooms have the same
 -- number.
-use mathlib.Core.{Path._≡_, Path.refl, Path.sym, Path.ap, Path._∙_, Bool.Bool, Bool.true, Bool.false}
+use mathlib.Core.{Path._≡_, Path.refl, Path.sym, Path.ap, Path._∙_}
 use mathlib.Core.{List.List, List.[], List._∷_, List._++_, Logic._≢_, Logic._⊎_, Logic.inl, Logic.inr}
 use Prim.Native.Nat.{ℕ, _<_, _≤_}
 use native.Mathlib.Omega.{arith}
-use borrow.Author.Tests.{ltb-true, ltb-false}
-use lib.{Dec.T, Dec.ltb, ListN.length}
+use lib.{Dec.T, ListN.length}
 use Rattle.octets.specs.{Buffers.placed, Buffers.put, Stream.Cipher}
 use Rattle.octets.proofs.Buffers.{put-placed}
 use Rattle.refusals.specs.{Numbers.accepted, Numbers.noRoom, Outcome.Outcome, Outcome.outcome}
@@ -14,7 +13,7 @@ use Rattle.refusals.proofs.Faults.{numbered, all-right, refused-at, rule-passes
 use Rattle.refusals.proofs.Settled.{settled-done, settled-left, first-here, first-later}
 use Rattle.refusals.proofs.Settled.{answer-number, answer-done, answer-left}
 use Rattle.pack.specs.{Calls.refusedOpening, declared.Opened.Opened}
-use Rattle.pack.specs.Faults.{faultsFromSamples, faultsFromKey, fileFaults, keyedFaults, roomFaults, openFaults}
+use Rattle.pack.specs.Faults.{faultsFromSamples, faultsFromKey, fileFaults, keyedFaults, openFaults}
 use Rattle.rings.specs.Ring.{keysBytes}
 use Rattle.survey_bytes.specs.Calls.{answerNumbers, numbersRoom}
 use Rattle.pack_bytes.specs.Calls.{keysFault, packOpened, bytesFaults, bytesOpening}
@@ -22,7 +21,7 @@ use Rattle.pack_bytes.specs.Calls.{keysFault, packOpened, bytesFaults, b
 -- ---- whatever a file is opened as: by the rules `opens`, `told` is answered and `done` is what `output` comes to
 
 module _ {A : Type 0} (keys : List ℕ) (right : length keys ≡ keysBytes) (opens : List Fault)
-  (no-zero : T (numbered opens)) (told : Opened) (done output : List A) (answer : List ℕ) where
+    (no-zero : T (numbered opens)) (told : Opened) (done output : List A) (answer : List ℕ) where
   abbrev rest : List Fault
   rest = (length answer under numbersRoom says noRoom) ∷ []
 
@@ -44,7 +43,7 @@ module _ {A : Type 0} (keys : List ℕ) (right : length keys ≡ keysBytes) (ope
 
   -- what the opener came to
   module _ (accepts : told .refusal ≡ accepted) {o : Opened} {out : List A} (lacks : ℕ)
-    (own : outcome o out ≡ settled opens (outcome told done) (λ n. outcome (refusedOpening lacks n) output)) where
+      (own : outcome o out ≡ settled opens (outcome told done) (λ n. outcome (refusedOpening lacks n) output)) where
     number : o .refusal ≡ first opens
     number = answer-number _ _ _ (λ (x : Outcome Opened A). x .answer .refusal) accepts (λ m. refl) own
 
@@ -65,16 +64,6 @@ module _ {A : Type 0} (keys : List ℕ) (right : length keys ≡ keysBytes) (ope
         ∙ settled-done (bytesFaults keys opens (length answer)) _ (packOpened output answer)
         (all-right rest (room, tt) ∙ first-later opens rest no-zero (sym z ∙ number)
         ∙ rule-passes (keysFault keys) (opens ++ rest) right)
-
--- a room is enough, or it is 19
-pub room-or-not : (needed room : ℕ)
-    → (first (roomFaults needed room) ≡ accepted) ⊎ (first (roomFaults needed room) ≡ noRoom)
-room-or-not needed room = go (ltb room needed) refl
-  where
-    go : (b : Bool) → ltb room needed ≡ b
-        → (first (roomFaults needed room) ≡ accepted) ⊎ (first (roomFaults needed room) ≡ noRoom)
-    go true more = inr (sym (refused-at 0 (roomFaults needed room) (ltb-true room needed more)))
-    go false fits = inl (sym (all-right (roomFaults needed room) (ltb-false room needed fits, tt)))
 
 -- ---- opened as samples
 

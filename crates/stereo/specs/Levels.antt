@@ -21,8 +21,8 @@ unfoldable pub fractionOf : ℕ → ℕ
 fractionOf zero = 0
 fractionOf (suc m) = suc m * 2 ^ (23 - highestOne (suc m)) - 2 ^ 23
 
--- The three say what the magnitude is: its highest one stands where it is said, and with the digit that a float doesn't
--- write the fraction, moved up by the exponent, is the magnitude, moved up by 23 places; both fit their fields.
+-- For the reader: where the highest one stands, and what the two fields come to. With the digit that a float doesn't
+-- write, the fraction, moved up by the exponent, is the magnitude, moved up by 23 places; and both fit their fields.
 pub record Exactly (n : ℕ) : Type 0 where
   pub above : 2 ^ highestOne n ≤ n
   pub below : n < 2 ^ (highestOne n + 1)

@@ -17,13 +17,9 @@ pub fn open(file: &[u8], keys: &[u8], frames: &mut [f32], answer: &mut [usize]) 
     let third = rings::triad_ring(&own);
     if answer.len() < survey_bytes::NUMBERS {
         let told = inspector::inspect(file, first, second, third);
-        let fault = told.refusal;
+        let fault = stereo_opener::frames_fault(told.refusal, told.samples, frames.len());
         if fault != refusals::ACCEPTED {
             return fault;
-        }
-        let samples = told.samples;
-        if samples % 2 != 0 {
-            return refusals::ODD_SAMPLES;
         }
         return refusals::NO_ROOM;
     }

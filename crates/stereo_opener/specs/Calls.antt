@@ -3,7 +3,7 @@ use Prim.Native.Nat.{ℕ, _%_}
 use mathlib.Core.List.{List, [], _∷_, _++_}
 use lib.{Ieee.Float, ListN.length}
 use Rattle.octets.specs.{Buffers.placed, Stream.Cipher}
-use Rattle.refusals.specs.{Numbers.oddSamples, Outcome.Outcome, Outcome.outcome}
+use Rattle.refusals.specs.{Numbers.accepted, Numbers.oddSamples, Outcome.Outcome, Outcome.outcome}
 use Rattle.refusals.specs.Rules.{_unlike_, Fault, _says_, settled}
 use Rattle.stereo.specs.Frames.{floatsOf}
 use Rattle.pack.specs.{Calls.refusedOpening, Calls.acceptedOpening, Calls.lacksOf, Faults.keyedFaults, Faults.roomFaults}
@@ -14,7 +14,11 @@ use Rattle.pack.specs.declared.Opened.{Opened}
 abbrev pub framesFaults : ℕ → ℕ → List Fault
 framesFaults samples room = (samples % 2 unlike 0 says oddSamples) ∷ roomFaults samples room
 
--- behind all that a pack can have wrong
+-- behind the number that was found of a file by one who has keys
+abbrev pub afterKeyed : ℕ → ℕ → ℕ → List Fault
+afterKeyed keyed samples room = (keyed unlike accepted says keyed) ∷ framesFaults samples room
+
+-- and behind all that a pack can have wrong
 unfoldable pub stereoFaults : Cipher → List (List ℕ) → List ℕ → ℕ → List Fault
 stereoFaults cipher ring file room = keyedFaults cipher ring file ++ framesFaults (sampleCount cipher file) room
 

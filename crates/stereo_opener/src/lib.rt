@@ -3,8 +3,26 @@
 ghost use mathlib.Core.Path.{_≡_};
 ghost use Rattle.pack.specs.Ciphers.{rings};
 ghost use Rattle.refusals.specs.Outcome.{outcome};
-ghost use Rattle.stereo_opener.specs.Calls.{openingStereoFile};
+ghost use Rattle.refusals.specs.Rules.{first};
+ghost use Rattle.stereo_opener.specs.Calls.{afterKeyed, openingStereoFile};
 use pack::Opened;
+
+// The order: the number that one who has keys is told of a file, its tag's too, then whether its samples are whole
+// frames, then the room.
+pub fn frames_fault(keyed: u8, samples: usize, room: usize) -> u8
+    ensures { λ r. ⌜ r ≡ first (afterKeyed keyed samples room) ⌝ }
+{
+    if keyed != refusals::ACCEPTED {
+        return keyed;
+    }
+    if samples % 2 != 0 {
+        return refusals::ODD_SAMPLES;
+    }
+    if room < samples {
+        return refusals::NO_ROOM;
+    }
+    refusals::ACCEPTED
+}
 
 // Writes the frames to the front of the output, left first, and answers what the file holds and where.
 pub fn open(
@@ -17,17 +35,12 @@ pub fn open(
     ensures { λ r. ⌜ outcome r (now (output .exit))
         ≡ openingStereoFile (rings ring second third) (now (file .entry)) (now (output .entry)) ⌝ }
 {
+    let told = surveyor::survey(file);
     let opened = inspector::inspect(file, ring, second, third);
-    let no = opened.refusal;
-    if no != refusals::ACCEPTED {
-        return opened;
-    }
-    let samples = opened.samples;
-    if samples % 2 != 0 {
-        return pack::refused_opening(0, refusals::ODD_SAMPLES);
-    }
-    if output.len() < samples {
-        return pack::refused_opening(0, refusals::NO_ROOM);
+    let samples = told.samples;
+    let fault = frames_fault(opened.refusal, samples, output.len());
+    if fault != refusals::ACCEPTED {
+        return pack::refused_opening(opened.lacks, fault);
     }
     let value_at = opened.value_at;
     let loops_at = opened.loops_at;

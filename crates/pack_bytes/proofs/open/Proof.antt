@@ -10,11 +10,11 @@ use Rattle.refusals.proofs.{Faults.numbered, Settled.left-at, Settled.first-her
 use Rattle.pack.specs.Calls.{acceptedOpening, openingPack, inspectingFile, openingFile}
 use Rattle.pack.specs.{Ciphers.cipherIn, Ciphers.Rings, Ciphers.rings, Ciphers.ringIn, Places.sampleCount}
 use Rattle.pack.specs.{Faults.keyedFaults, Faults.roomFaults, Faults.openFaults, declared.Opened.Opened}
-use Rattle.pack.proofs.Theorems.{inspect-refusal, keyed-numbered}
+use Rattle.pack.proofs.Theorems.{inspect-refusal, keyed-numbered, room-or-not}
 use Rattle.rings.specs.Ring.{ringsOf, keysBytes}
 use Rattle.rings.proofs.Keys.{all-rings}
 use Rattle.pack_bytes.specs.Calls.{packOpened, packOpen}
-use Rattle.pack_bytes.proofs.Opening.{refused-by, no-answer, refused-so, opened-so, room-or-not, numbered-open}
+use Rattle.pack_bytes.proofs.Opening.{refused-by, no-answer, refused-so, opened-so, numbered-open}
 use Rattle.pack_bytes.proofs.open.Statement.{statement}
 use Rattle.pack_bytes.proofs.open.Tie as tie
 
@@ -99,7 +99,7 @@ returns-3 c =
     let later = first-later (keyed t) (room t) (keyed-numbered (cipher t) (ring t) (lent t .args .file .now))
     (sym (c .if3 .left) ∙ told s) in
     no-answer (lent t .args .keys .now) (right t) (opens t) (numbers t) (yes t) _ (lent t .args .samples .now)
-    (lent t .args .answer .now) (s .before .if2 .taken)
+    (lent t .args .answer .now) (omega arith)
     (subst (λ (n : ℕ). (n ≡ accepted) ⊎ (n ≡ noRoom)) later (room-or-not _ _))
 
 returns-4 : tie.Need-returns-4
@@ -117,7 +117,7 @@ returns-5 c =
     let s = w .before .before .before .before in
     let t = s .before .before .before in
     opened-so (lent t .args .keys .now) (right t) (opens t) (numbers t) (yes t) _ (lent t .args .samples .now)
-    (lent t .args .answer .now) refl _ (own s) (w .before .before .if4 .left) (s .before .before .if2 .left)
+    (lent t .args .answer .now) refl _ (own s) (w .before .before .if4 .left) (omega arith)
     (w .tell .ensures)
 
 pub open-spec : {M : Type 1} → statement M

@@ -166,16 +166,17 @@ module _ (cipher : Cipher) (ring : List (List ℕ)) (p : Parts) where
         loops-long,
       )
 
-  -- the first three; the body is under the keystream that was begun
-  written : (d : List ℕ) {k : Keystream} {e₁ e₂ e₃ : List ℕ} → last ≤ length d → k ≡ stream → e₁ ≡ put d 0 start
-      → e₂ ≡ put e₁ place (enciphered k plain)
+  -- the first three; the body is under the keystream that was begun, at the place that the code names
+  written : (d : List ℕ) {k : Keystream} {at : ℕ} {e₁ e₂ e₃ : List ℕ} → last ≤ length d → k ≡ stream
+      → e₁ ≡ put d 0 start
+      → e₂ ≡ put e₁ at (enciphered k plain) → at ≡ place
       → e₃ ≡ put e₂ end (loopSection p)
       → e₃ ≡ put d 0 three
-  written d {e₁ = e₁} room under p₁ p₂ p₃ =
+  written d {e₁ = e₁} room under p₁ p₂ there p₃ =
       let both = length-append start body in
       p₃
       ∙ puts-on d 0 (start ++ body) (loopSection p)
-      (p₂ ∙ ap (λ (q : Keystream). put e₁ place (enciphered q plain)) under
+      (p₂ ∙ (λ i. put e₁ (there i) (enciphered (under i) plain))
       ∙ puts-on d 0 start body p₁ (omega (arith, start-long)) (omega (arith, start-long, body-long)))
       (omega (arith, both, start-long, body-long))
       (omega (arith, both, start-long, body-long, loops-long))
@@ -262,7 +263,7 @@ returns-2 c =
     ap (λ (r : Ready). r .stream) (b .before .before .begin .ensures ∙ sym (done-if _ _ _ (k .3, (k .1, tt)))) in
     let three = written (cipher s) (ring s) p (a .output .now) (omega (arith, k)) under (front b .write-front .ensures
     ∙ headed)
-    (b .write-samples .ensures) (l .write-loops .ensures) in
+    (b .write-samples .ensures) (omega arith) (l .write-loops .ensures) in
     ap₂ (λ (n : ℕ) (d : List ℕ). outcome {A = Sealed} (record { refusal = accepted; length = n }) d)
     (omega (arith, length-layout (cipher s) (ring s) p, c .tag-length .ensures))
     (finished (cipher s) (ring s) p (a .output .now) _ (omega (arith, k)) three (omega (arith, k))

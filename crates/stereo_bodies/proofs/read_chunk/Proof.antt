@@ -20,7 +20,7 @@ use Rattle.stereo_bodies.proofs.read_chunk.Tie as tie
 
 -- what reading bytes under a keystream to a room for them comes to
 module _ (k : Keystream) (bytes : List ℕ) (room : List ℤ) {next : Keystream} {filled : List ℤ}
-  (read : outcome next filled ≡ readingOn k bytes room) (fits : length bytes / 2 ≤ length room) where
+    (read : outcome next filled ≡ readingOn k bytes room) (fits : length bytes / 2 ≤ length room) where
   both : outcome next filled
       ≡ outcome {A = Keystream} (from (length bytes) k) (placed room 0 (wordsOf (enciphered k bytes)))
   unfolding readingOn

@@ -1,27 +1,24 @@
 -- `stereo_bytes::open` meets its contract: the keys' length decides, then the file, then whether its frames are whole,
 -- then the two rooms.
-use mathlib.Core.{Path._≡_, Path.refl, Path.sym, Path.ap, Path.subst, Path._∙_, List.List, Logic._⊎_}
-use Prim.Native.Nat.{ℕ, _%_}
+use mathlib.Core.{Path._≡_, Path.refl, Path.sym, Path.ap, Path._∙_, List.List, Logic.inl}
+use Prim.Native.Nat.{ℕ}
 use native.Mathlib.Omega.{arith}
 use borrow.Author.Needs.{needs}
 use lib.{Dec.T, ListN.length}
 use Rattle.octets.specs.Stream.{Cipher}
-use Rattle.refusals.specs.{Numbers.accepted, Numbers.noRoom, Numbers.oddSamples, Outcome.outcome}
-use Rattle.refusals.specs.Rules.{_unlike_, Fault, _says_, first}
-use Rattle.refusals.proofs.Faults.{numbered, refused-at, rule-passes}
-use Rattle.refusals.proofs.{Settled.left-at, Settled.first-here, Settled.first-later}
-use Rattle.pack.specs.Calls.{acceptedOpening, inspectingFile}
-use Rattle.opener.proofs.Told.{known}
-use Rattle.stereo_opener.specs.Calls.{framesFaults, stereoFaults, openingStereo, openingStereoFile}
-use Rattle.stereo_opener.proofs.Theorems.{numbered-stereo}
-use Rattle.pack.specs.{Ciphers.cipherIn, Ciphers.Rings, Ciphers.rings, Ciphers.ringIn, Places.sampleCount}
-use Rattle.pack.specs.{Faults.keyedFaults, Faults.roomFaults, declared.Opened.Opened}
-use Rattle.pack.proofs.Theorems.{inspect-refusal, keyed-numbered}
+use Rattle.refusals.specs.{Outcome.outcome, Rules.Fault, Rules.first}
+use Rattle.refusals.proofs.{Faults.numbered, Settled.left-at}
+use Rattle.pack.specs.{Calls.acceptedOpening, Calls.inspectingFile, Faults.keyedFaults, declared.Opened.Opened}
+use Rattle.pack.specs.Ciphers.{cipherIn, Rings, rings, ringIn}
+use Rattle.pack.proofs.Theorems.{keyed-numbered}
 use Rattle.rings.specs.Ring.{ringsOf, keysBytes}
 use Rattle.rings.proofs.Keys.{all-rings}
+use Rattle.opener.proofs.Told.{found, known}
+use Rattle.stereo_opener.specs.Calls.{stereoFaults, openingStereo, openingStereoFile}
+use Rattle.stereo_opener.proofs.Order.{numbered-stereo, after-keyed}
 use Rattle.pack_bytes.specs.Calls.{packOpened}
+use Rattle.pack_bytes.proofs.Opening.{refused-by, no-answer, refused-so, opened-so}
 use Rattle.stereo_bytes.specs.Calls.{packOpenStereo}
-use Rattle.pack_bytes.proofs.Opening.{refused-by, no-answer, refused-so, opened-so, room-or-not}
 use Rattle.stereo_bytes.proofs.open.Statement.{statement}
 use Rattle.stereo_bytes.proofs.open.Tie as tie
 
@@ -50,12 +47,9 @@ module _ (t : tie.After-triad-ring) where
   abbrev ring : List (List ℕ)
   ring = ringIn (ringsOf (lent .args .keys .now)) (lent .args .file .now)
 
-  -- the file's own rules, and those of its frames
+  -- the file's own rules, and with those of its frames the opener's
   abbrev keyed : List Fault
   keyed = keyedFaults cipher ring (lent .args .file .now)
-
-  abbrev room : List Fault
-  room = framesFaults (sampleCount cipher (lent .args .file .now)) (length (lent .args .frames .now))
 
   abbrev opens : List Fault
   opens = stereoFaults cipher ring (lent .args .file .now) (length (lent .args .frames .now))
@@ -74,10 +68,19 @@ told s =
     let t = s .before .before in
     s .inspect .ensures ∙ ap (λ (r : Rings). inspectingFile r (lent t .args .file .now)) (are t)
 
-fault : (s : tie.After-inspect) → let t = s .before .before in s .inspect .result .refusal ≡ first (keyed t)
-fault s =
+-- and so why it isn't opened, whatever the room for the answer
+fault : (g : tie.After-frames-fault) → let t = g .before .before .before in
+    g .frames-fault .result ≡ first (opens t)
+unfolding stereoFaults
+fault g =
+    let s = g .before in
     let t = s .before .before in
-    ap (λ (o : Opened). o .refusal) (told s) ∙ inspect-refusal (cipher t) (ring t) (lent t .args .file .now)
+    let o : Opened = s .inspect .result in
+    let all : Rings = ringsOf (lent t .args .keys .now) in
+    g .frames-fault .ensures
+    ∙ after-keyed (keyed t) (keyed-numbered (cipher t) (ring t) (lent t .args .file .now)) _ _
+    (found all (lent t .args .file .now) o (told s))
+    (λ none. known all (lent t .args .file .now) o (told s) none .samples)
 
 -- the opener's own outcome
 own : (s : tie.After-open) → let t = s .before .before .before in
@@ -93,77 +96,43 @@ unfolding packOpenStereo
 returns c = left-at _ _ _ 0 tt (c .if1 .taken)
 
 returns-2 : tie.Need-returns-2
-unfolding packOpenStereo stereoFaults
+unfolding packOpenStereo
 returns-2 c =
-    let s = c .before in
-    let t = s .before .before in
+    let g = c .before in
+    let t = g .before .before .before in
     ap (packOpened (lent t .args .frames .now) (lent t .args .answer .now)) (omega arith)
     ∙ refused-by (lent t .args .keys .now) (right t) (opens t) (numbers t) (yes t) _ (lent t .args .frames .now)
-    (lent t .args .answer .now) (s .inspect .result .refusal) (c .if3 .taken)
-    (first-here (keyed t) (room t) (keyed-numbered (cipher t) (ring t) (lent t .args .file .now)) _ (c .if3 .taken)
-    (fault s))
-
--- of an accepted file it is told how many samples it has, and the rules of its frames decide
-counted : (c : tie.Else3) → let s = c .before in let t = s .before .before in
-    s .inspect .result .samples ≡ sampleCount (cipher t) (lent t .args .file .now)
-counted c =
-    let s = c .before in
-    let t = s .before .before in
-    known (ringsOf (lent t .args .keys .now)) (lent t .args .file .now) _ (told s) (c .if3 .left) .samples
-
-later : (c : tie.Else3) → let t = c .before .before .before in first (room t) ≡ first (opens t)
-unfolding stereoFaults
-later c =
-    let s = c .before in
-    let t = s .before .before in
-    first-later (keyed t) (room t) (keyed-numbered (cipher t) (ring t) (lent t .args .file .now))
-    (sym (c .if3 .left) ∙ fault s)
+    (lent t .args .answer .now) (g .frames-fault .result) (c .if3 .taken) (fault g)
 
 returns-3 : tie.Need-returns-3
 unfolding packOpenStereo
 returns-3 c =
-    let e = c .before in
-    let t = e .before .before .before in
-    refused-by (lent t .args .keys .now) (right t) (opens t) (numbers t) (yes t) _ (lent t .args .frames .now)
-    (lent t .args .answer .now) oddSamples (omega arith)
-    (refused-at 0 (room t) (omega (arith, counted e)) ∙ later e)
+    let g = c .before in
+    let t = g .before .before .before in
+    no-answer (lent t .args .keys .now) (right t) (opens t) (numbers t) (yes t) _ (lent t .args .frames .now)
+    (lent t .args .answer .now) (omega arith) (inl (sym (fault g) ∙ c .if3 .left))
 
 returns-4 : tie.Need-returns-4
-unfolding packOpenStereo
+unfolding packOpenStereo openingStereo
 returns-4 c =
-    let e = c .before in
-    let s = e .before in
-    let t = s .before .before in
-    let n : ℕ = sampleCount (cipher t) (lent t .args .file .now) in
-    no-answer (lent t .args .keys .now) (right t) (opens t) (numbers t) (yes t) _ (lent t .args .frames .now)
-    (lent t .args .answer .now) (s .before .if2 .taken)
-    (subst (λ (n : ℕ). (n ≡ accepted) ⊎ (n ≡ noRoom))
-    (rule-passes (n % 2 unlike 0 says oddSamples) (roomFaults n (length (lent t .args .frames .now)))
-    (omega (arith, counted e))
-    ∙ later e)
-    (room-or-not _ _))
+    let s = c .before .before .before in
+    let t = s .before .before .before in
+    refused-so (lent t .args .keys .now) (right t) (opens t) (numbers t) (yes t) _ (lent t .args .frames .now)
+    (lent t .args .answer .now) refl _ (own s) (c .if4 .taken)
 
 returns-5 : tie.Need-returns-5
 unfolding packOpenStereo openingStereo
 returns-5 c =
-    let s = c .before .before .before in
-    let t = s .before .before .before in
-    refused-so (lent t .args .keys .now) (right t) (opens t) (numbers t) (yes t) _ (lent t .args .frames .now)
-    (lent t .args .answer .now) refl _ (own s) (c .if5 .taken)
-
-returns-6 : tie.Need-returns-6
-unfolding packOpenStereo openingStereo
-returns-6 c =
     let w = c .before .before in
     let s = w .before .before .before .before .before in
     let t = s .before .before .before in
     opened-so (lent t .args .keys .now) (right t) (opens t) (numbers t) (yes t) _ (lent t .args .frames .now)
-    (lent t .args .answer .now) refl _ (own s) (w .before .before .if5 .left) (s .before .before .if2 .left)
+    (lent t .args .answer .now) refl _ (own s) (w .before .before .if4 .left) (omega arith)
     (w .tell .ensures)
 
 pub open-spec : {M : Type 1} → statement M
 open-spec =
     tie.close
     (tie.spec returns (λ c κs. search needs) (λ c κs. search needs) (λ c κs. search needs) (λ c κs. search needs)
-    (λ c κs. search needs) returns-2 returns-3 returns-4 (λ c κs. search needs) (λ c. search needs) returns-5
-    (λ c κs. search needs) (λ c. search needs) (λ c. search needs) returns-6)
+    (λ c κs. search needs) (λ c κs. search needs) returns-2 returns-3 (λ c κs. search needs) (λ c. search needs) returns-4
+    (λ c κs. search needs) (λ c. search needs) (λ c. search needs) returns-5)
