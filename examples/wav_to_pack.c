@@ -1,6 +1,7 @@
 /*
- * Seals the sound of a WAV file, mono, 16 bits, PCM, as a pack under any of the ciphers; under triad it gets a tag, by
- * which changes are noticed. The loops of a 'smpl' chunk go with it; the rate does not, for a pack has none. Files of
+ * Seals the sound of a WAV file, mono or with --stereo in two channels, 16 bits, PCM, as a pack under any of the ciphers;
+ * under triad it gets a tag, by which changes are noticed. Of a stereo sound the pack has a left sample and a right one
+ * in turn, and opens as frames; a pack does not say so, and who opens it has to know. The loops of a 'smpl' chunk go with it; the rate does not, for a pack has none. Files of
  * the extensible format are read too, and files that were written to a pipe.
  *
  * A WAV file may have samples of -32768, and a pack may not: an instrument negates samples, and this one has no
@@ -9,9 +10,11 @@
 #include "files.h"
 
 static const char usage[] =
-    "usage: wav_to_pack [--cipher trivium|enocoro|triad] [--raise] KEYS KEY_NUMBER VALUE_HEX NAME IN.wav OUT.pack\n"
+    "usage: wav_to_pack [--cipher trivium|enocoro|triad] [--stereo] [--raise]\n"
+    "                   KEYS KEY_NUMBER VALUE_HEX NAME IN.wav OUT.pack\n"
     "  --cipher    the cipher that the pack is under, trivium if it is not said; with triad the pack has a tag, by\n"
     "              which a change is noticed\n"
+    "  --stereo    the sound has two channels: the pack has a left sample and a right one in turn\n"
     "  --raise     seals samples of -32768, which a pack does not hold, as -32767, and prints how many there were\n"
     "  KEYS        a file of 168 bytes: four keys of ten bytes each, for trivium, then four of 16 bytes each, for\n"
     "              enocoro, and four of 16 bytes each, for triad; those that are not used may be zeros\n"
@@ -40,9 +43,10 @@ enum {
 };
 
 struct sound {
+    uint32_t channels;
     int16_t *samples;
     size_t sample_count;
-    uint32_t *loops; /* starts and ends in turn */
+    uint32_t *loops; /* starts and ends in turn, in samples */
     size_t loop_count;
 };
 
@@ -119,13 +123,19 @@ static void check_bits(const char *path, unsigned bits)
     if (bits != SAMPLE_BITS) stop("%s has samples of %u bits, and a pack holds 16: convert it first", path, bits);
 }
 
-static void check_format(const char *path, struct chunk fmt)
+static void check_channels(const char *path, unsigned channels, unsigned wanted)
+{
+    if (channels == wanted) return;
+    stop(wanted == 1 ? "%s has %u channels, and a pack holds one, or with --stereo two"
+                     : "%s has %u channels, and --stereo is for two", path, channels);
+}
+
+static void check_format(const char *path, struct chunk fmt, unsigned channels)
 {
     if (fmt.body == NULL || fmt.length < FMT_BYTES) stop("%s has no whole chunk 'fmt ', which says its format", path);
     unsigned format = format_of(path, fmt);
-    unsigned channels = wav_number(fmt.body + 2, 2);
     if (format != PCM) stop("%s is not plain PCM, which is format 1: it has format %u", path, format);
-    if (channels != 1) stop("%s has %u channels, and a pack holds one: mix it down to mono first", path, channels);
+    check_channels(path, wav_number(fmt.body + 2, 2), channels);
     check_bits(path, wav_number(fmt.body + 14, 2));
     if (wav_number(fmt.body, 2) == EXTENSIBLE) check_bits(path, wav_number(fmt.body + 18, 2)); /* those in use */
 }
@@ -134,13 +144,21 @@ static void read_samples(const char *path, struct chunk data, struct sound *soun
 {
     if (data.body == NULL) stop("%s has no samples: there is no chunk 'data'", path);
     if (data.length % SAMPLE_BYTES != 0) stop("%s ends with half a sample", path);
+    if (data.length / SAMPLE_BYTES % sound->channels != 0) stop("%s ends with half a frame", path);
     sound->sample_count = data.length / SAMPLE_BYTES;
     sound->samples = room_for(sound->sample_count, sizeof *sound->samples);
     for (size_t i = 0; i < sound->sample_count; i++)
         sound->samples[i] = (int16_t)wav_number(data.body + SAMPLE_BYTES * i, SAMPLE_BYTES);
 }
 
-/* In a WAV file a loop ends with its end, in a pack before it. The highest end becomes 0, which the library refuses. */
+/* Where a frame begins, in samples; one so far behind that this has no number is past the end of any sound. */
+static uint32_t in_samples(uint32_t frame, uint32_t channels)
+{
+    return frame > UINT32_MAX / channels ? UINT32_MAX : frame * channels;
+}
+
+/* In a WAV file a loop is in frames and ends with its end, in a pack it is in samples and ends before it. The highest
+ * end becomes 0, which the library refuses. */
 static void read_loops(const char *path, struct chunk smpl, struct sound *sound)
 {
     sound->loop_count = 0;
@@ -154,8 +172,8 @@ static void read_loops(const char *path, struct chunk smpl, struct sound *sound)
     for (size_t i = 0; i < sound->loop_count; i++) {
         const uint8_t *loop = smpl.body + SMPL_HEAD + SMPL_LOOP * i;
         if (wav_number(loop + 4, 4) != FORWARD) stop("%s has a loop that is not played forward, loop %zu", path, i + 1);
-        sound->loops[2 * i] = wav_number(loop + 8, 4);
-        sound->loops[2 * i + 1] = wav_number(loop + 12, 4) + 1;
+        sound->loops[2 * i] = in_samples(wav_number(loop + 8, 4), sound->channels);
+        sound->loops[2 * i + 1] = in_samples(wav_number(loop + 12, 4) + 1, sound->channels);
     }
 }
 
@@ -164,7 +182,7 @@ static void read_wav(const char *path, struct sound *sound)
     struct file wav = read_file(path);
     if (wav.length < RIFF_HEAD || memcmp(wav.bytes, "RIFF", 4) != 0 || memcmp(wav.bytes + 8, "WAVE", 4) != 0)
         stop("%s is not a WAV file", path);
-    check_format(path, find_chunk(&wav, "fmt "));
+    check_format(path, find_chunk(&wav, "fmt "), sound->channels);
     read_samples(path, find_chunk(&wav, "data"), sound);
     read_loops(path, find_chunk(&wav, "smpl"), sound);
     free(wav.bytes);
@@ -234,6 +252,7 @@ static const struct cipher *read_cipher(const char *name)
 
 struct options {
     bool raises;
+    uint32_t channels;
     const struct cipher *cipher;
     int words; /* how many they take */
 };
@@ -241,11 +260,14 @@ struct options {
 /* Options stand before all other words, in any order. */
 static struct options read_options(int words, char **word)
 {
-    struct options options = {.cipher = &ciphers[0]};
+    struct options options = {.channels = 1, .cipher = &ciphers[0]};
     for (;;) {
         int at = 1 + options.words;
         if (at < words && strcmp(word[at], "--raise") == 0) {
             options.raises = true;
+            options.words += 1;
+        } else if (at < words && strcmp(word[at], "--stereo") == 0) {
+            options.channels = 2;
             options.words += 1;
         } else if (at + 1 < words && strcmp(word[at], "--cipher") == 0) {
             options.cipher = read_cipher(word[at + 1]);
@@ -322,7 +344,7 @@ int main(int words, char **word)
     word += options.words; /* so the words behind the options have their usual places */
     if (words != 7) stop("%s", usage);
     struct order order = {.keys = read_file(word[1]), .cipher = options.cipher, .key_number = read_key_number(word[2]),
-                          .name = word[4], .wav_path = word[5]};
+                          .name = word[4], .wav_path = word[5], .sound.channels = options.channels};
     order.value_length = read_value(word[3], order.cipher, order.value);
     struct sound *sound = &order.sound;
     read_wav(order.wav_path, sound);

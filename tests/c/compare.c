@@ -97,15 +97,14 @@ static void break_lowest(void) {
     model_rules.lowest_opened = -32768;
 }
 
-/* What a frame is made of, and what its floats are. */
-static void break_frames(void) {
-    if (random_once_in(2)) {
-        printf("broken on purpose: the model has left and right the other way round\n");
-        model_rules.left_first = false;
-    } else {
-        printf("broken on purpose: the model divides by 16384 where it should divide by 32768\n");
-        model_rules.halvings--;
-    }
+static void break_sides(void) {
+    printf("broken on purpose: the model has left and right the other way round\n");
+    model_rules.left_first = false;
+}
+
+static void break_floats(void) {
+    printf("broken on purpose: the model divides by 16384 where it should divide by 32768\n");
+    model_rules.halvings--;
 }
 
 static void print_row(enum call call) {
@@ -164,7 +163,8 @@ static const struct {
     {"tag", false, break_tag},
     {"lack", false, break_lack},
     {"lowest", false, break_lowest},
-    {"frames", false, break_frames},
+    {"sides", false, break_sides},
+    {"floats", false, break_floats},
 };
 
 enum { BREAKINGS = sizeof breakings / sizeof *breakings };

@@ -12,11 +12,11 @@ use Rattle.stereo.specs.{Levels.levelOf, Frames.floatsOf}
 abbrev pub levelFrom : ℕ → ℕ → Float
 levelFrom upper lower = levelOf (wordOf upper lower)
 
--- 35, a frame being four bytes, and 19: then nothing is read
-abbrev pub frameFaults : ℕ → ℕ → List Fault
-frameFaults bytes room = (bytes % 4 unlike 0 says oddSamples) ∷ (bytes / 2 over room says noRoom) ∷ []
+-- 35, if the last frame would lack its right float, and then 19, for as many floats as samples
+abbrev pub framesFaults : ℕ → ℕ → List Fault
+framesFaults samples room = (samples % 2 unlike 0 says oddSamples) ∷ (samples over room says noRoom) ∷ []
 
 unfoldable pub readingFrames : Keystream → List ℕ → List Float → List Float
 readingFrames k body output =
-    settled (frameFaults (length body) (length output)) (placed output 0 (floatsOf (wordsOf (enciphered k body))))
+    settled (framesFaults (length body / 2) (length output)) (placed output 0 (floatsOf (wordsOf (enciphered k body))))
     (λ n. output)

@@ -22,7 +22,7 @@ fn blank() -> [i16; 512]
 
 // So many bytes of the body from `at`, deciphered and written as frames to their place; and the cipher behind them.
 fn read_chunk(cipher: Cipher, body: &[u8], output: &mut [f32], at: usize, size: usize) -> Cipher
-    requires { ⌜ (size ≤ 1024) × (size % 4 ≡ 0) × (at + size ≤ length (now body))
+    requires { ⌜ (size ≤ 1024) × (size / 2 % 2 ≡ 0) × (at + size ≤ length (now body))
         × (at / 2 + size / 2 ≤ length (now output)) ⌝ }
     ensures { λ r. ⌜ (ahead r ≡ from size (ahead cipher)) × (now (output .exit) ≡ put (now (output .entry)) (at / 2)
         (byTwos levelFrom (enciphered (ahead cipher) (slice (now (body .entry)) at size)))) ⌝ }
@@ -41,10 +41,11 @@ pub fn read_frames(start: Cipher, body: &[u8], output: &mut [f32])
         ≡ readingFrames (ahead start) (now (body .entry)) (now (output .entry)) ⌝ }
 {
     let n = body.len();
-    if n % 4 != 0 {
+    let samples = n / 2;
+    if samples % 2 != 0 {
         return;
     }
-    if output.len() < n / 2 {
+    if output.len() < samples {
         return;
     }
     let mut cipher = start;

@@ -15,7 +15,8 @@ use Rattle.pack.specs.{Calls.acceptedOpening, Ciphers.cipherIn, Ciphers.ringIn,
 use Rattle.pack.specs.Faults.{faultsFromSamples, faultsFromKey, fileFaults, keyedFaults, roomFaults, openFaults}
 use Rattle.pack.proofs.{AcceptedFiles.samples-counted, Theorems.keyed-shown}
 use Rattle.rings.specs.Ring.{ringsOf}
-use Rattle.stereo_opener.specs.Calls.{framesFaults, stereoFaults}
+use Rattle.stereo_bodies.specs.Reading.{framesFaults}
+use Rattle.stereo_opener.specs.Calls.{stereoFaults}
 use Rattle.survey_bytes.specs.Calls.{answerNumbers, numbersRoom}
 use Rattle.pack_bytes.specs.Calls.{PackOpened, packOpened, bytesFaults, packOpen}
 use Rattle.stereo_bytes.specs.{Calls.packOpenStereo, Framed.PackFramed}

@@ -11,7 +11,8 @@ use Rattle.refusals.proofs.{Faults.numbered, Faults.refused-at, Faults.rule-pas
 use Rattle.refusals.proofs.Settled.{first-here, first-later}
 use Rattle.pack.specs.{Calls.surveying, Places.sampleCount, declared.Opened.Opened}
 use Rattle.pack.specs.Faults.{faultsFromSamples, faultsFromKey, fileFaults, keyedFaults}
-use Rattle.stereo_opener.specs.Calls.{framesFaults, afterKeyed, stereoFaults}
+use Rattle.stereo_bodies.specs.Reading.{framesFaults}
+use Rattle.stereo_opener.specs.Calls.{afterKeyed, stereoFaults}
 
 -- no rule has the number of a call that isn't refused
 pub numbered-stereo : (cipher : Cipher) (ring : List (List ℕ)) (file : List ℕ) (room : ℕ)

@@ -24,7 +24,8 @@ use Rattle.pack.specs.Faults.{faultsFromSamples, faultsFromKey, fileFaults, key
 use Rattle.pack.specs.declared.Opened.{Opened}
 use Rattle.pack.proofs.AcceptedFiles.{samples-counted}
 use Rattle.pack.proofs.{Opposites.given-good, Theorems.keyed-numbered, Theorems.keyed-shown, Theorems.room-or-not}
-use Rattle.stereo_opener.specs.Calls.{framesFaults, stereoFaults, openingStereo}
+use Rattle.stereo_bodies.specs.Reading.{framesFaults}
+use Rattle.stereo_opener.specs.Calls.{stereoFaults, openingStereo}
 use Rattle.stereo_opener.specs.Framed.{Framed}
 
 module _ (cipher : Cipher) (ring : List (List ℕ)) (file : List ℕ) (sound : List ℤ) (output : List Float)

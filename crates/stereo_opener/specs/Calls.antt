@@ -1,18 +1,15 @@
 -- Opening a pack as frames of floats: what the call owes, for every input.
-use Prim.Native.Nat.{ℕ, _%_}
-use mathlib.Core.List.{List, [], _∷_, _++_}
+use Prim.Native.Nat.{ℕ}
+use mathlib.Core.List.{List, _∷_, _++_}
 use lib.{Ieee.Float, ListN.length}
 use Rattle.octets.specs.{Buffers.placed, Stream.Cipher}
-use Rattle.refusals.specs.{Numbers.accepted, Numbers.oddSamples, Outcome.Outcome, Outcome.outcome}
+use Rattle.refusals.specs.{Numbers.accepted, Outcome.Outcome, Outcome.outcome}
 use Rattle.refusals.specs.Rules.{_unlike_, Fault, _says_, settled}
 use Rattle.stereo.specs.Frames.{floatsOf}
-use Rattle.pack.specs.{Calls.refusedOpening, Calls.acceptedOpening, Calls.lacksOf, Faults.keyedFaults, Faults.roomFaults}
+use Rattle.stereo_bodies.specs.Reading.{framesFaults}
+use Rattle.pack.specs.{Calls.refusedOpening, Calls.acceptedOpening, Calls.lacksOf, Faults.keyedFaults}
 use Rattle.pack.specs.{Ciphers.cipherIn, Ciphers.Rings, Ciphers.ringIn, Places.sampleCount, Places.partsOf}
 use Rattle.pack.specs.declared.Opened.{Opened}
-
--- 35, if the last frame would lack its right float, and then 19, for as many floats as samples
-abbrev pub framesFaults : ℕ → ℕ → List Fault
-framesFaults samples room = (samples % 2 unlike 0 says oddSamples) ∷ roomFaults samples room
 
 -- behind the number that was found of a file by one who has keys
 abbrev pub afterKeyed : ℕ → ℕ → ℕ → List Fault

@@ -35,6 +35,7 @@ pub fn open(
     ensures { λ r. ⌜ outcome r (now (output .exit))
         ≡ openingStereoFile (rings ring second third) (now (file .entry)) (now (output .entry)) ⌝ }
 {
+    // the count is the survey's, since of a refused file, also of one with a wrong tag, `inspect` tells none
     let told = surveyor::survey(file);
     let opened = inspector::inspect(file, ring, second, third);
     let samples = told.samples;

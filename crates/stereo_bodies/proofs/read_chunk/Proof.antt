@@ -39,11 +39,11 @@ module _ (k : Keystream) (bytes : List ℕ) (room : List ℤ) {next : Keystream}
       ∙ take-placed room run (omega arith)
 
   -- and their floats are what the plain bytes make
-  framed : (n : ℕ) → n ≡ length bytes / 2 → length bytes % 4 ≡ 0
+  framed : (n : ℕ) → n ≡ length bytes / 2 → length bytes / 2 % 2 ≡ 0
       → floatsOf (take n filled) ≡ byTwos levelFrom (enciphered k bytes)
   framed n all whole =
       ap floatsOf (front n all)
-      ∙ floats-twos (enciphered k bytes) (ap (λ (m : ℕ). m % 4) (length-enciphered k bytes) ∙ whole)
+      ∙ floats-twos (enciphered k bytes) (ap (λ (m : ℕ). m / 2 % 2) (length-enciphered k bytes) ∙ whole)
 
 returns : tie.Need-returns
 returns c =

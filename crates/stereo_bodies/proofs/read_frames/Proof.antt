@@ -1,7 +1,7 @@
 -- `stereo_bodies::read_frames` meets its contract: after each turn the floats of the first `at` bytes are in place, and
 -- the cipher has gone as far.
 use mathlib.Core.{Path._≡_, Path.refl, Path.sym, Path.ap, Path._∙_}
-use Prim.Native.Nat.{ℕ, _+_, _-_, _%_, _≤_}
+use Prim.Native.Nat.{ℕ, _+_, _-_, _/_, _%_, _≤_}
 use native.Mathlib.Omega.{arith}
 use lib.ListN.{length}
 use Rattle.octets.specs.{Buffers.placed, Stream.Keystream, Stream.from, Stream.enciphered}
@@ -15,13 +15,13 @@ use Rattle.stereo_bodies.proofs.read_frames.Statement.{statement}
 use Rattle.stereo_bodies.proofs.read_frames.Tie as tie
 
 abbrev Inv-loop : tie.InvT-loop
-Inv-loop body output₀ n cipher₀ at₀ output cipher at =
+Inv-loop body output₀ n samples cipher₀ at₀ output cipher at =
     (at ≤ length body) × (at % 1024 ≡ 0) × (length output ≡ length output₀)
     × (ahead cipher ≡ from at (ahead cipher₀))
     × (output ≡ read levelFrom (ahead cipher₀) body output₀ at)
 
 abbrev μ-loop : tie.MeasureT-loop
-μ-loop body output₀ n cipher₀ at₀ output cipher at = length body - at
+μ-loop body output₀ n samples cipher₀ at₀ output cipher at = length body - at
 
 returns : tie.Need-returns Inv-loop μ-loop
 unfolding readingFrames
@@ -64,7 +64,7 @@ returns-3 c =
     (omega arith) (omega arith) (l .inv .3) (l .inv .4) (m .read-chunk2 .ensures .0) (m .read-chunk2 .ensures .1) in
     all .1 ∙ all-read levelFrom k (p .body .now) (p .output .now) (l .at + n % 1024) (omega arith) (omega arith)
     ∙ ap (placed (p .output .now) 0)
-    (sym (floats-twos (enciphered k (p .body .now)) (ap (λ (m : ℕ). m % 4) (length-enciphered k (p .body .now))
+    (sym (floats-twos (enciphered k (p .body .now)) (ap (λ (m : ℕ). m / 2 % 2) (length-enciphered k (p .body .now))
     ∙ omega arith)))
     ∙ done-if _ _ _ (omega arith, (omega arith, tt))
 

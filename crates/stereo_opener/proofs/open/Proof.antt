@@ -11,13 +11,13 @@ use Rattle.refusals.specs.{Numbers.accepted, Outcome.outcome, Rules.AllRight, R
 use Rattle.refusals.proofs.Faults.{all-right, none-wrong, right-both}
 use Rattle.refusals.proofs.Settled.{done-if, settled-left}
 use Rattle.stereo.specs.Frames.{floatsOf}
-use Rattle.stereo_bodies.specs.Reading.{readingFrames}
+use Rattle.stereo_bodies.specs.Reading.{framesFaults, readingFrames}
 use Rattle.pack.specs.{Ciphers.cipherIn, Ciphers.Rings, Ciphers.rings, Ciphers.ringIn, Faults.keyedFaults}
 use Rattle.pack.specs.{Calls.lacksOf, Places.sampleCount, declared.Opened.Opened}
 use Rattle.pack.proofs.Theorems.{keyed-numbered}
 use Rattle.surveyor.proofs.Lacking.{lacking-so}
 use Rattle.opener.proofs.Told.{found, lacks-told, right, none-broken, answered, Known, known, deciphered}
-use Rattle.stereo_opener.specs.Calls.{framesFaults, stereoFaults, openingStereo}
+use Rattle.stereo_opener.specs.Calls.{stereoFaults, openingStereo}
 use Rattle.stereo_opener.proofs.{Order.numbered-stereo, Order.after-keyed, Order.survey-counts}
 use Rattle.stereo_opener.proofs.open.Statement.{statement}
 use Rattle.stereo_opener.proofs.open.Tie as tie
