@@ -3,7 +3,7 @@
 use mathlib.Core.{Path._≡_, Path.refl, Path.sym, Path.ap, Path.subst, Path._∙_, Logic._≢_, List.List, List._++_}
 use Prim.Native.Nat.{ℕ, _+_, _-_, _*_, _≤_}
 use native.Mathlib.Omega.{arith}
-use lib.{IntN.ℤ, ListN.length}
+use lib.ListN.{length}
 use Rattle.octets.specs.{Buffers.slice, Stream.Keystream, Stream.enciphered}
 use Rattle.octets.proofs.Slices.{length-slice}
 use Rattle.refusals.specs.{Numbers.accepted, Outcome.Outcome, Outcome.outcome}
@@ -13,14 +13,14 @@ use Rattle.refusals.proofs.Faults.{none-wrong, right-after, verdict-right}
 use Rattle.refusals.proofs.Settled.{done-if, settled-left, by-settled, first-here, first-later}
 use Rattle.samples.specs.Words.{wordsOf}
 use Rattle.pack.specs.Calls.{refusedOpening, acceptedOpening, lacksOf, inspecting, inspectingFile}
-use Rattle.pack.specs.Ciphers.{cipherOf, picked, cipherIn, Rings, ringIn}
+use Rattle.pack.specs.Ciphers.{cipherIn, Rings, ringIn}
 use Rattle.pack.specs.Faults.{fileFaults, keyedFaults}
 use Rattle.pack.specs.{Layout.keyNamed, declared.Opened.Opened}
-use Rattle.pack.specs.Places.{keyPlace, keyNumber, valuePlace, sampleCount, bodyPlace, loopsPlace, partsOf}
+use Rattle.pack.specs.Places.{keyPlace, keyNumber, valuePlace, sampleCount, bodyPlace, partsOf}
 use Rattle.pack.proofs.Theorems.{keyed-numbered, keyed-shown, inspect-refusal, inspecting-leaves}
 use Rattle.surveyor.proofs.Lacking.{lacking-so}
 use Rattle.inspector.proofs.Shown.{shown}
-use Rattle.bodies.specs.Bodies.{Ready, ready, streamFor, beginning, beginningFrom}
+use Rattle.bodies.specs.Bodies.{ready, beginning, beginningFrom}
 
 module _ (r : Rings) (file : List ℕ) (told : Opened) (inspected : told ≡ inspectingFile r file) where
   abbrev faults : List Fault

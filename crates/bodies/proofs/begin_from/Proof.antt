@@ -1,6 +1,6 @@
 -- `bodies::begin_from` meets its contract: count, key number and value stand where a key section has them.
-use mathlib.Core.{Path._≡_, Path.sym, Path.ap, Path._∙_, List.List}
-use Prim.Native.Nat.{ℕ, _+_, _<_, _≤_}
+use mathlib.Core.{Path._≡_, Path.ap, Path._∙_, List.List}
+use Prim.Native.Nat.{ℕ, _+_, _<_}
 use native.Mathlib.Omega.{arith}
 use borrow.Author.Needs.{needs}
 use lib.ListN.{length, drop, length-take, length-drop, List·getD-eq-default}
@@ -10,7 +10,7 @@ use Rattle.refusals.proofs.Settled.{left-at}
 use Rattle.pack.specs.{Ciphers.cipherOf, Ciphers.picked, Ciphers.Rings, Ciphers.rings, Places.byteAt}
 use Rattle.pack.specs.{declared.Kind.Kind, declared.Kind.the-variants.Trivium}
 use Rattle.pack.specs.declared.Kind.the-variants.{Enocoro, Triad}
-use Rattle.bodies.specs.Bodies.{Ready, refusedBeginning, beginning, beginningFrom}
+use Rattle.bodies.specs.Bodies.{refusedBeginning, beginning, beginningFrom}
 use Rattle.bodies.proofs.begin_from.Statement.{statement}
 use Rattle.bodies.proofs.begin_from.Tie as tie
 

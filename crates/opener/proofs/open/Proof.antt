@@ -1,7 +1,7 @@
 -- `opener::open` meets its contract: what was told to one who has keys decides, then the room, and the samples are read
 -- under the cipher and the key that the pack names.
 use mathlib.Core.{Path._≡_, Path.sym, Path.ap, Path.ap₂, Path._∙_, List.List}
-use Prim.Native.Nat.{ℕ, _-_, _*_}
+use Prim.Native.Nat.{_-_, _*_}
 use native.Mathlib.Omega.{arith}
 use borrow.Author.Needs.{needs}
 use lib.{IntN.ℤ, ListN.length}

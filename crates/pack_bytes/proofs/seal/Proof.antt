@@ -1,6 +1,6 @@
 -- `pack_bytes::seal` meets its contract: the keys' length decides, then the name and the cipher's count, then the
 -- sealer's number.
-use mathlib.Core.{Path._≡_, Path.refl, Path.sym, Path.ap, Path._∙_, List.List}
+use mathlib.Core.{Path._≡_, Path.refl, Path.sym, Path.ap, Path._∙_}
 use Prim.Native.Nat.{ℕ}
 use native.Mathlib.Omega.{arith}
 use borrow.Author.Needs.{needs}

@@ -4,7 +4,7 @@ use mathlib.Core.{Path._≡_, Path.refl, Path.sym, Path.ap, Path._∙_, List.Lis
 use Prim.Native.Nat.{ℕ, _-_, _/_, _%_, _≤_}
 use native.Mathlib.Omega.{arith}
 use borrow.Author.Needs.{needs}
-use lib.{IntN.ℤ, Ieee.Float, ListN.length, ListN.take}
+use lib.{IntN.ℤ, ListN.length, ListN.take}
 use Rattle.octets.specs.{Buffers.slice, Buffers.placed, Buffers.put, Stream.Keystream, Stream.from, Stream.enciphered}
 use Rattle.octets.proofs.{Buffers.take-placed, Slices.length-slice, Streams.length-enciphered}
 use Rattle.refusals.specs.Outcome.{Outcome, outcome}

@@ -1,7 +1,6 @@
 -- `stereo_opener::frames_fault` meets its contract: each test is the rule of its place.
 use native.Mathlib.Omega.{arith}
-use Rattle.refusals.proofs.Faults.{all-right, refused-at, refused-so}
-use Rattle.stereo_opener.specs.Calls.{afterKeyed}
+use Rattle.refusals.proofs.Faults.{all-right, refused-so}
 use Rattle.stereo_opener.proofs.frames_fault.Statement.{statement}
 use Rattle.stereo_opener.proofs.frames_fault.Tie as tie
 
