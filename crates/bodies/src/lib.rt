@@ -13,7 +13,7 @@ use chunks::Cipher;
 use pack::Kind;
 
 // A refusal of 0 says that the call was not refused.
-#[derive(Drop)]
+#[derive(Clone, Copy)]
 pub struct Beginning {
     pub refusal: u8,
     pub cipher: Cipher,

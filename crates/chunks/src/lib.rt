@@ -8,7 +8,7 @@ ghost use Rattle.samples.specs.Words.{words_of, bytes_of_all};
 ghost use Rattle.chunks.specs.Ahead.{ahead, reading_on};
 
 // A cipher at some place of its keystream.
-#[derive(Drop)]
+#[derive(Clone, Copy)]
 pub enum Cipher {
     Trivium(trivium::Registers),
     Enocoro(enocoro::Registers),

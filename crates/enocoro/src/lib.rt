@@ -8,7 +8,7 @@ ghost use Rattle.enocoro.specs.State.{next};
 ghost use Rattle.enocoro.specs.Window.{mixing, windowed};
 
 // The 34 bytes: the two bytes a, and the 32 bytes b in words of eight, the first of them as the most significant.
-#[derive(Drop)]
+#[derive(Clone, Copy)]
 pub struct Registers {
     pub a0: u8,
     pub a1: u8,
@@ -19,19 +19,19 @@ pub struct Registers {
 }
 
 // The answers. A refusal of 0 says that the call was not refused.
-#[derive(Drop)]
+#[derive(Clone, Copy)]
 pub struct Made {
     pub refusal: u8,
     pub registers: Registers,
 }
 
-#[derive(Drop)]
+#[derive(Clone, Copy)]
 pub struct Rounded {
     pub byte: u8,
     pub next: Registers,
 }
 
-#[derive(Drop)]
+#[derive(Clone, Copy)]
 pub struct Enciphered {
     pub refusal: u8,
     pub next: Registers,
@@ -60,7 +60,7 @@ fn refused_making(number: u8) -> Made
 }
 
 // The two bytes a.
-#[derive(Drop)]
+#[derive(Clone, Copy)]
 struct Pair {
     a0: u8,
     a1: u8,

@@ -8,7 +8,7 @@ ghost use Rattle.frames.specs.Frames.{block, bytes, heard};
 ghost use Rattle.frames.specs.Told.{told};
 
 // What a message says. A block tells how many bytes it has: they begin at byte 8 of the message.
-#[derive(Drop)]
+#[derive(Clone, Copy)]
 pub enum Told {
     Nothing,
     Opening(u32, u32),

@@ -2,7 +2,7 @@ ghost use Rattle.std.specs.Prelude.{◌≡◌};
 ghost use Rattle.names.specs.Naming.{named};
 
 // The key and the pair name of a link end, or why they can't be.
-#[derive(Drop)]
+#[derive(Clone, Copy)]
 pub struct Names {
     pub refusal: u8,
     pub key: [u8; 10],

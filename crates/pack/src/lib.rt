@@ -4,7 +4,7 @@ ghost use Rattle.pack.specs.Ciphers.{cipher_of, count_of, picked};
 ghost use Rattle.pack.specs.Layout.{name_good, tag_length};
 
 // The ciphers that a pack may be under.
-#[derive(Drop)]
+#[derive(Clone, Copy)]
 pub enum Kind {
     Trivium,
     Enocoro,
@@ -13,7 +13,7 @@ pub enum Kind {
 
 // What opening answers: `lacks` is how many bytes are missing of the section in which a file breaks off. A refused
 // answer has 0 for every other number.
-#[derive(Drop)]
+#[derive(Clone, Copy)]
 pub struct Opened {
     pub refusal: u8,
     pub lacks: usize,
@@ -27,7 +27,7 @@ pub struct Opened {
 }
 
 // What sealing answers: the file's length, or 0 with a refusal.
-#[derive(Drop)]
+#[derive(Clone, Copy)]
 pub struct Sealed {
     pub refusal: u8,
     pub length: usize,

@@ -14,7 +14,7 @@ ghost use Rattle.receiver.specs.Rules.{receiver_in_rule};
 use frames::Told;
 
 // `count` is how many blocks are held.
-#[derive(Drop)]
+#[derive(Clone, Copy)]
 pub struct Receiver {
     pub key: [u8; 10],
     pub pair: [u8; 6],
@@ -24,13 +24,13 @@ pub struct Receiver {
 }
 
 // The answers. A refusal of 0 says that the call was not refused, and a length is that of the frame that was written.
-#[derive(Drop)]
+#[derive(Clone, Copy)]
 pub struct ReceiverMade {
     pub refusal: u8,
     pub receiver: Receiver,
 }
 
-#[derive(Drop)]
+#[derive(Clone, Copy)]
 pub struct ReceiverAnswer {
     pub refusal: u8,
     pub length: usize,
@@ -39,7 +39,7 @@ pub struct ReceiverAnswer {
 
 // What a frame brings about, but for the sound's bytes: session, length and count afterwards, whether it is the block
 // in turn, and the answer's first byte, its session, and how many bytes of the count follow.
-#[derive(Drop)]
+#[derive(Clone, Copy)]
 struct Step {
     session: u32,
     length: u32,

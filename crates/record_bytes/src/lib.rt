@@ -5,7 +5,7 @@ ghost use Rattle.record_bytes.specs.Front.{front_bytes, front_in};
 ghost use Rattle.record_bytes.specs.SixWords.{six_bytes, six_in};
 
 // The beginning of both link ends' records.
-#[derive(Drop)]
+#[derive(Clone, Copy)]
 pub struct Front {
     pub key: [u8; 10],
     pub pair: [u8; 6],
@@ -50,7 +50,7 @@ pub fn write_front(d: &mut [u8], front: Front)
 }
 
 // Six words, which are the records of the ciphers on three registers: of each register two words.
-#[derive(Drop)]
+#[derive(Clone, Copy)]
 pub struct SixWords {
     pub a1: u64,
     pub a0: u64,

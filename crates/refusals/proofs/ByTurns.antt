@@ -18,7 +18,7 @@ pub data Turns {A : Type 0} (P : A → Type 0) (done : A) (left : ℕ → A) : L
   either : {w : Wrong} {n : ℕ} {faults : List Fault} → P (ending done left n) → (Right w → Turns P done left faults)
       → Turns P done left ((w says n) ∷ faults)
 
-pub by_turns : {A : Type 0} (P : A → Type 0) {faults : List Fault} {done : A} {left : ℕ → A} → Turns P done left faults
+pub by_turns : {A : Type 0} (P : A → Type 0) {done : A} {left : ℕ → A} {faults : List Fault} → Turns P done left faults
     → P (settled faults done left)
 unfolding settled first told
 by_turns P (finally h) = h

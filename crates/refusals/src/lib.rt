@@ -65,7 +65,7 @@ pub const WRONG_TAG: u8 = 38;
 pub const BAD_TAG_SECTION: u8 = 45;
 
 // What a file's rules come to: a number for no, and how many bytes the file lacks where it breaks off.
-#[derive(Drop)]
+#[derive(Clone, Copy)]
 pub struct Verdict {
     pub number: u8,
     pub lacks: usize,

@@ -11,13 +11,13 @@ ghost use Rattle.sender.specs.Sender.{due_in, sending, hear_faults, informed, he
 use frames::Told;
 
 // Why a sender's transfer was refused by the other end.
-#[derive(Drop)]
+#[derive(Clone, Copy)]
 pub enum Reason {
     TooLong,
 }
 
 // How far a sender's transfer is. `Sending` carries the count of blocks that are known to be held.
-#[derive(Drop)]
+#[derive(Clone, Copy)]
 pub enum Phase {
     Idle,
     Opening,
@@ -26,7 +26,7 @@ pub enum Phase {
     Refused(Reason),
 }
 
-#[derive(Drop)]
+#[derive(Clone, Copy)]
 pub struct Sender {
     pub key: [u8; 10],
     pub pair: [u8; 6],
@@ -36,13 +36,13 @@ pub struct Sender {
 }
 
 // The answers. A refusal of 0 says that the call was not refused, and a length is that of the frame that was written.
-#[derive(Drop)]
+#[derive(Clone, Copy)]
 pub struct SenderAnswer {
     pub refusal: u8,
     pub sender: Sender,
 }
 
-#[derive(Drop)]
+#[derive(Clone, Copy)]
 pub struct Sent {
     pub refusal: u8,
     pub length: usize,
@@ -51,7 +51,7 @@ pub struct Sent {
 
 // What a record's phase says: whether the record is in rule, whether a transfer is under way, the count of blocks that
 // would be news, and how many bytes are due.
-#[derive(Drop)]
+#[derive(Clone, Copy)]
 struct Stage {
     in_rule: bool,
     under_way: bool,
@@ -62,7 +62,7 @@ struct Stage {
 const LAST_SESSION: u32 = 4294967295;
 
 // A rule of a call that was looked at already: whether it is broken, and the number for no if it is.
-#[derive(Drop)]
+#[derive(Clone, Copy)]
 struct Verdict {
     broken: bool,
     number: u8,

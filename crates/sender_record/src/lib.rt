@@ -12,7 +12,7 @@ pub const SENDER_BYTES: usize = 27;
 const NO_LENGTH: u32 = 32769;
 
 // A phase as two numbers: its own, and the count that it carries.
-#[derive(Drop)]
+#[derive(Clone, Copy)]
 pub struct PhaseNumbers {
     pub number: u64,
     pub known: u64,

@@ -2,7 +2,7 @@ ghost use Rattle.std.specs.Prelude.{◌≡◌};
 ghost use Rattle.shift_registers.specs.Words.{shifted};
 
 // What steps put out, and what each register then has as its newest word.
-#[derive(Drop)]
+#[derive(Clone, Copy)]
 pub struct Newest {
     pub z: u64,
     pub a: u64,

@@ -4,7 +4,7 @@ ghost use Rattle.octets.specs.Buffers.{put};
 ghost use Rattle.stereo.specs.Levels.{level_of};
 ghost use Rattle.stereo.specs.Frames.{frame_of, floats_of};
 
-#[derive(Drop)]
+#[derive(Clone, Copy)]
 pub struct Stereo {
     pub left: f32,
     pub right: f32,

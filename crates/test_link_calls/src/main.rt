@@ -24,27 +24,27 @@ const OVER_ROOM: u64 = 1025;
 const MOST_ROWS: usize = 1000;
 
 // From where to where two runs differ. Where they don't, both are 0.
-#[derive(Drop)]
+#[derive(Clone, Copy)]
 struct Place {
     from: usize,
     end: usize,
 }
 
 // What is kept: of the receiver's end, and of both.
-#[derive(Drop)]
+#[derive(Clone, Copy)]
 struct Kept {
     receiver: [u8; 1024],
     buffer: [u8; 1024],
 }
 
-#[derive(Drop)]
+#[derive(Clone, Copy)]
 struct Ends {
     sender: [u8; 1024],
     kept: Kept,
 }
 
 // A row's numbers.
-#[derive(Drop)]
+#[derive(Clone, Copy)]
 struct Lent {
     record: u64,
     first: u64,

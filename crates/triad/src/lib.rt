@@ -7,7 +7,7 @@ ghost use Rattle.triad.specs.State.{loaded, permuted};
 
 // The 256 bits: a register's 64 newest bits stand in its word 0 and its older ones in its word 1, the newest of each
 // word as the most significant bit, so that the older word's lowest bits are spare.
-#[derive(Drop)]
+#[derive(Clone, Copy)]
 pub struct Registers {
     pub a1: u64,
     pub a0: u64,
@@ -18,25 +18,25 @@ pub struct Registers {
 }
 
 // The answers. A refusal of 0 says that the call was not refused.
-#[derive(Drop)]
+#[derive(Clone, Copy)]
 pub struct Made {
     pub refusal: u8,
     pub registers: Registers,
 }
 
-#[derive(Drop)]
+#[derive(Clone, Copy)]
 pub struct Stepped {
     pub bit: u8,
     pub next: Registers,
 }
 
-#[derive(Drop)]
+#[derive(Clone, Copy)]
 pub struct Strode {
     pub word: u64,
     pub next: Registers,
 }
 
-#[derive(Drop)]
+#[derive(Clone, Copy)]
 pub struct Enciphered {
     pub refusal: u8,
     pub next: Registers,

@@ -11,7 +11,7 @@ ghost use Rattle.trivium.specs.Record.{state};
 
 // The 288 bits: a register's upper bits stand in its word 1 and its 64 newest in its word 0, the newest of all as the
 // lowest bit.
-#[derive(Drop)]
+#[derive(Clone, Copy)]
 pub struct Registers {
     pub a1: u64,
     pub a0: u64,
@@ -22,19 +22,19 @@ pub struct Registers {
 }
 
 // The answers. A refusal of 0 says that the call was not refused.
-#[derive(Drop)]
+#[derive(Clone, Copy)]
 pub struct Made {
     pub refusal: u8,
     pub registers: Registers,
 }
 
-#[derive(Drop)]
+#[derive(Clone, Copy)]
 pub struct Stepped {
     pub bit: u8,
     pub next: Registers,
 }
 
-#[derive(Drop)]
+#[derive(Clone, Copy)]
 pub struct Strode {
     pub word: u64,
     pub next: Registers,
@@ -43,18 +43,18 @@ pub struct Strode {
 // Registers in a run of strides. A stride here moves whole words and clears nothing, so a register's word 1 goes on
 // holding bits that the cipher is done with. This is no cipher record, and nobody else can take one out of it but by
 // `stop`, which clears them.
-#[derive(Drop)]
+#[derive(Clone, Copy)]
 pub struct Running {
     registers: Registers,
 }
 
-#[derive(Drop)]
+#[derive(Clone, Copy)]
 pub struct Ran {
     pub word: u64,
     pub next: Running,
 }
 
-#[derive(Drop)]
+#[derive(Clone, Copy)]
 pub struct Enciphered {
     pub refusal: u8,
     pub next: Registers,

@@ -9,7 +9,7 @@ pub const EMPTY: u16 = 0;
 
 // What a block's arrival brings about: whether it is to be placed, by how much the count of blocks held moves, and the
 // map afterwards.
-#[derive(Drop)]
+#[derive(Clone, Copy)]
 pub struct Arrival {
     pub fresh: bool,
     pub moved: u16,

@@ -22,12 +22,12 @@ returns c =
     let copied = written.before.before.before in
     let s = copied.before.before.before.before in
     let p = s.args in
-    let value : written.write-number.new.0 ≡ initial p.pair.now p.session =
-    written.write-number.ensures
+    let value : written.write_number.new.0 ≡ initial p.pair.now p.session =
+    written.write_number.ensures
     ∙ ap (λ (d : List ℕ). put d 6 (digits 256 4 p.session)) copied.copy.ensures
     ∙ value_made _ p.pair.now p.session refl s.requires.1 in
     ap (λ (m : Made). keystream (state m.registers))
-    (moved p.key.now (initial p.pair.now p.session) (8 * p.k) made.make-at.ensures refl value
+    (moved p.key.now (initial p.pair.now p.session) (8 * p.k) made.make_at-made.ensures refl value
     (omega arith))
     ∙ stands p.key.now p.pair.now p.session p.k s.requires.0 s.requires.1
 

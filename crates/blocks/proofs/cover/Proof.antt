@@ -14,29 +14,29 @@ use Rattle.blocks.specs.Covering.{covered}
 use Rattle.blocks.proofs.{Covering.length_covered, cover.Statement.statement}
 use Rattle.blocks.proofs.cover.Tie as tie
 
-returns : tie.Need-returns
+returns : tie.Need-returns-then-buffer-at
 returns c = put_none _ _ _ (omega arith)
 
-returns-2 : tie.Need-returns-2
+returns-2 : tie.Need-returns-then-buffer-at-2
 returns-2 c =
     let p = c.before.before.before.before.args in
     let long = length_covered trivium p.key.now p.pair.now p.session p.k p.run.now in
     put_none _ _ _ (omega arith)
 
-returns-3 : tie.Need-returns-3
+returns-3 : tie.Need-returns
 unfolding covered
 returns-3 c =
     let call = c.before.before in
-    let got = call.before.before.cipher in
+    let got = call.before.before.cipher-registers in
     let p = call.before.before.before.before.before.before.before.before.before.args in
-    let d : List ℕ = p.buffer.now in
+    let d : List ℕ = p.buffer-1.now in
     let run : List ℕ = p.run.now in
     let all : List ℕ = covered trivium p.key.now p.pair.now p.session p.k run in
     let part : List ℕ = slice d p.at (length d - p.at) in
     let long = length_covered trivium p.key.now p.pair.now p.session p.k run in
     let room : p.at + length all ≤ length d = omega arith in
     ap (λ (l : List ℕ). take p.at d ++ (l ++ drop (length d - p.at) (drop p.at d)))
-    (ap (λ (o : Outcome Enciphered ℕ). o.buffer)
+    (ap (λ (o : Outcome Enciphered ℕ). o.buffer-1)
     (call.encipher.ensures ∙ enciphers got.result run part (simp (length-take, length-drop) (omega arith)))
     ∙ ap (λ (k : Keystream). placed part 0 (enciphered k run)) got.ensures)
     ∙ placed_part d p.at all room

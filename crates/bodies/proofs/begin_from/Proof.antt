@@ -40,24 +40,24 @@ read_there r file at which number size value =
     let same = size ∙ ap (λ (k : Kind). (cipher_of k).value_bytes) which in
     λ i. beginning (which i) r (number i) ((value ∙ ap (slice file (at + 2)) same) i)
 
-returns : tie.Need-returns
+returns : tie.Need-returns-then-file-lt2
 returns c =
     let p = c.before.before.before.args in
-    c.refused-beginning.ensures ∙ no_value (rings p.ring p.second p.third) p.file.now p.at (omega arith)
+    c.refused_beginning.ensures ∙ no_value (rings p.ring p.second p.third) p.file.now p.at (omega arith)
 
-returns-2 : tie.Need-returns-2
+returns-2 : tie.Need-returns-then-file-at
 returns-2 c =
     let p = c.before.before.before.before.args in
-    c.refused-beginning2.ensures ∙ no_value (rings p.ring p.second p.third) p.file.now p.at (omega arith)
+    c.refused_beginning-then-file-at.ensures ∙ no_value (rings p.ring p.second p.third) p.file.now p.at (omega arith)
 
-returns-3 : tie.Need-returns-3
+returns-3 : tie.Need-returns
 returns-3 c =
     let v = c.before in
     let k = v.before.before in
     let p = k.before.before.before.before.before.before.args in
     c.begin.ensures
-    ∙ read_there (rings p.ring p.second p.third) p.file.now p.at k.kind-of.ensures (omega arith)
-    v.before.value-bytes.ensures v.slice.ensures
+    ∙ read_there (rings p.ring p.second p.third) p.file.now p.at k.kind_of-kind.ensures (omega arith)
+    v.before.value_bytes.ensures v.slice-value.ensures
 
 pub begin_from_spec : {M : Type 1} → statement M
 begin_from_spec =

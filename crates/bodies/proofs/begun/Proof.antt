@@ -26,31 +26,31 @@ named s kind e row told = e ∙ (λ i. under s (sym told i) (row i))
 long : (s : tie.Start) {kind : Kind} → s.args.kind ≡ kind → length s.args.value.now ≡ (cipher_of kind).value_bytes
 long s told = s.requires.1 ∙ ap (λ (k : Kind). (cipher_of k).value_bytes) told
 
-returns : tie.Need-returns
+returns : tie.Need-returns-in-Trivium
 returns c =
     let told = c.before.before.before in
     let s = told.before.before.before in
-    named s Trivium c.trivium-begun.ensures (omega arith) told.enum_told.given.1
+    named s Trivium c.trivium_begun.ensures (omega arith) told.enum_told-1.given.1
 
-returns-2 : tie.Need-returns-2
+returns-2 : tie.Need-returns-in-Enocoro
 returns-2 c =
     let told = c.before.before.before in
     let s = told.before.before.before in
-    named s Enocoro c.enocoro-begun.ensures (omega arith) told.enum-told2.given.1
+    named s Enocoro c.enocoro_begun.ensures (omega arith) told.enum_told-in-Enocoro-1.given.1
 
-returns-3 : tie.Need-returns-3
+returns-3 : tie.Need-returns-in-Triad
 returns-3 c =
     let told = c.before.before.before in
     let s = told.before.before.before in
-    named s Triad c.triad-begun.ensures (omega arith) told.enum-told3.given.1
+    named s Triad c.triad_begun.ensures (omega arith) told.enum_told-in-Triad-1.given.1
 
 pub begun_spec : {M : Type 1} → statement M
 begun_spec =
     tie.close
     (tie.spec (λ c. search rules) (λ c. omega arith) (λ c. omega arith)
-    (λ c κs. long c.before.before.before.before.before c.before.before.enum_told.given.1)
+    (λ c κs. long c.before.before.before.before.before c.before.before.enum_told-1.given.1)
     (λ c. search rules) (λ c. omega arith) (λ c. omega arith)
-    (λ c κs. long c.before.before.before.before.before c.before.before.enum-told2.given.1)
+    (λ c κs. long c.before.before.before.before.before c.before.before.enum_told-in-Enocoro-1.given.1)
     (λ c. search rules) (λ c. omega arith) (λ c. omega arith)
-    (λ c κs. long c.before.before.before.before.before c.before.before.enum-told3.given.1)
+    (λ c κs. long c.before.before.before.before.before c.before.before.enum_told-in-Triad-1.given.1)
     returns returns-2 returns-3)

@@ -6,7 +6,7 @@ use Rattle.bodies.proofs.enocoro_begun.Tie as tie
 
 returns : tie.Need-returns
 unfolding ahead
-returns c = c.enocoro-made.ensures
+returns c = c.enocoro_made.ensures
 
 pub enocoro_begun_spec : {M : Type 1} → statement M
-enocoro_begun_spec = tie.close (tie.spec (λ c κs. (c.enocoro-made-arg.given.0, omega arith)) returns)
+enocoro_begun_spec = tie.close (tie.spec (λ c κs. (c.enocoro_made-arg-1.given.0, omega arith)) returns)

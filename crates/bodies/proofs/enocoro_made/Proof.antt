@@ -12,10 +12,10 @@ returns c =
     let made = c.before in
     let known = made.before in
     let p = known.before.before.args in
-    ap (λ (m : Made). ahead m.registers) made.new.ensures
+    ap (λ (m : Made). ahead m.registers) made.new-made.ensures
     ∙ made_stream p.key.now p.value.now (omega arith) (omega arith)
-    (λ i. omega (arith, known.before.shared-slice-known.given i))
-    (λ i. omega (arith, known.shared-slice-known2.given i))
+    (λ i. omega (arith, known.before.shared_slice_known-1.given i))
+    (λ i. omega (arith, known.shared_slice_known-2-1.given i))
 
 pub enocoro_made_spec : {M : Type 1} → statement M
 enocoro_made_spec = tie.close (tie.spec (λ c κs. search rules) returns)

@@ -13,8 +13,8 @@ unfolding chunks.ahead
 returns c =
     let made = c.before in
     let p = made.before.before.before.args in
-    ap (λ (m : Made). ahead m.registers) made.make.ensures
-    ∙ made_stream p.key.now p.value.now made.before.make-arg.given.0 (omega arith)
+    ap (λ (m : Made). ahead m.registers-1) made.make-made.ensures
+    ∙ made_stream p.key.now p.value.now made.before.make-arg-1.given.0 (omega arith)
 
 pub trivium_begun_spec : {M : Type 1} → statement M
 trivium_begun_spec = tie.close (tie.spec (λ c κs. search rules) returns)

@@ -37,35 +37,35 @@ as_told : (s : tie.Start) (cipher next : Cipher) {after : List ℕ} → s.args.c
     → Covers s.args.cipher s.args.bytes.now next after
 as_told s cipher next {after} told e = subst (λ (k : Cipher). Covers k s.args.bytes.now next after) (sym told) e
 
-returns : tie.Need-returns
+returns : tie.Need-returns-in-Trivium
 unfolding ahead trivium.covering
 returns c =
     let covered = c.before.before in
     let told = covered.before.before.before in
     let s = told.before.before.before in
-    as_told s _ (Trivium covered.cover.result) told.cipher.given.1
+    as_told s _ (Trivium covered.cover.result) told.cipher-1.given.1
     (by_own Trivium trivium.answered trivium.skipping TriviumLaws.goes_on _ s.args.bytes.now
     covered.cover.ensures)
 
-returns-2 : tie.Need-returns-2
+returns-2 : tie.Need-returns-in-Enocoro
 unfolding ahead enocoro.covering
 returns-2 c =
     let covered = c.before.before in
     let told = covered.before.before.before in
     let s = told.before.before.before in
-    as_told s _ (Enocoro covered.cover2.result) told.cipher2.given.1
+    as_told s _ (Enocoro covered.cover-in-Enocoro.result) told.cipher-in-Enocoro-1.given.1
     (by_own Enocoro enocoro.answered enocoro.skipping EnocoroLaws.stream_skip _ s.args.bytes.now
-    covered.cover2.ensures)
+    covered.cover-in-Enocoro.ensures)
 
-returns-3 : tie.Need-returns-3
+returns-3 : tie.Need-returns-in-Triad
 unfolding ahead triad.covering
 returns-3 c =
     let covered = c.before.before in
     let told = covered.before.before.before in
     let s = told.before.before.before in
-    as_told s _ (Triad covered.cover3.result) told.cipher3.given.1
+    as_told s _ (Triad covered.cover-in-Triad.result) told.cipher-in-Triad-1.given.1
     (by_own Triad triad.answered triad.skipping TriadLaws.goes_on _ s.args.bytes.now
-    covered.cover3.ensures)
+    covered.cover-in-Triad.ensures)
 
 pub cover_spec : {M : Type 1} → statement M
 cover_spec =

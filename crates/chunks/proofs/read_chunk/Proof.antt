@@ -15,36 +15,36 @@ use Rattle.chunks.proofs.read_chunk.Statement.{statement}
 use Rattle.chunks.proofs.read_chunk.Tie as tie
 
 -- what was lent, and room for the chunk, behind the covering
-abbrev start : tie.After-cover → tie.Start
+abbrev start : tie.After-cover-next → tie.Start
 start v = v.before.before.before.before.before.before.before.before
 
-abbrev blank : tie.After-cover → List ℕ
-blank v = v.before.before.before.before.before.before.blank.result
+abbrev blank : tie.After-cover-next → List ℕ
+blank v = v.before.before.before.before.before.before.blank-chunk.result
 
 -- the bytes in question, and what they decipher to
-abbrev bytes : tie.After-cover → List ℕ
+abbrev bytes : tie.After-cover-next → List ℕ
 bytes v = let p = (start v).args in slice p.body.now p.at p.size
 
-abbrev plain : tie.After-cover → List ℕ
+abbrev plain : tie.After-cover-next → List ℕ
 plain v = enciphered (ahead (start v).args.cipher) (bytes v)
 
-long : (v : tie.After-cover) → length (bytes v) ≡ (start v).args.size
+long : (v : tie.After-cover-next) → length (bytes v) ≡ (start v).args.size
 long v = let p = (start v).args in length_slice p.body.now p.at p.size (omega arith)
 
 -- the chunk holds them deciphered at its front
-filled : (v : tie.After-cover)
-    → v.cover.new.1.0 ++ drop ((start v).args.size - 0) v.before.before.before.copy.new.0
+filled : (v : tie.After-cover-next)
+    → v.cover-next.new.1.0 ++ drop ((start v).args.size - 0) v.before.before.before.copy.new.0
     ≡ put (blank v) 0 (plain v)
 filled v =
     let copy = v.before.before.before in
     let n : ℕ = (start v).args.size - 0 in
     let size : length (bytes v) ≡ (start v).args.size = long v in
-    ap (λ (l : List ℕ). l ++ drop n copy.copy.new.0) v.cover.ensures.1
+    ap (λ (l : List ℕ). l ++ drop n copy.copy.new.0) v.cover-next.ensures.1
     ∙ in_place (ahead (start v).args.cipher) (blank v) (bytes v) copy.copy.new.0 0 n
     (copy.copy.ensures ∙ ap (put (blank v) 0) copy.before.slice.ensures) (omega arith) (omega arith)
 
 -- so they are read from there
-front : (v : tie.After-cover) → take (start v).args.size (put (blank v) 0 (plain v)) ≡ plain v
+front : (v : tie.After-cover-next) → take (start v).args.size (put (blank v) 0 (plain v)) ≡ plain v
 front v =
     let size : length (bytes v) ≡ (start v).args.size = long v in
     let same : length (plain v) ≡ length (bytes v) = length_enciphered (ahead (start v).args.cipher) (bytes v) in
@@ -53,20 +53,20 @@ front v =
     ∙ take_placed (blank v) (plain v) (omega arith)
 
 -- and the cipher has gone over them
-gone : (v : tie.After-cover) → ahead v.cover.result ≡ from (start v).args.size (ahead (start v).args.cipher)
+gone : (v : tie.After-cover-next) → ahead v.cover-next.result ≡ from (start v).args.size (ahead (start v).args.cipher)
 gone v =
     let copy = v.before.before.before in
     let n : ℕ = (start v).args.size - 0 in
     let kept : length copy.copy.new.0 ≡ length (blank v) =
     ap length copy.copy.ensures ∙ length_put (blank v) 0 _ in
-    v.cover.ensures.0
+    v.cover-next.ensures.0
     ∙ ap (λ (m : ℕ). from m (ahead (start v).args.cipher))
     (length_slice copy.copy.new.0 0 n (omega arith) ∙ omega arith)
 
-room : tie.Need-slice-aggregate-slice
+room : tie.Need-slice_bounds-slice-end
 room c =
     let v = c.before.before in
-    v.before.before.before.before.before.before.blank.ensures
+    v.before.before.before.before.before.before.blank-chunk.ensures
     ∙ sym (ap length (filled v) ∙ length_put (blank v) 0 (plain v))
 
 returns : tie.Need-returns
@@ -77,8 +77,8 @@ returns c =
     let p = (start v).args in
     let size : length (bytes v) ≡ p.size = long v in (
       gone v,
-      part_read word_of p.output.now (p.at / 2) (ahead p.cipher) (bytes v) words.read-words.ensures
-          (part.slice2.ensures ∙ ap (take p.size) (filled v) ∙ front v) (omega (arith, (start v).requires.2)),
+      part_read word_of p.output-1.now (p.at / 2) (ahead p.cipher) (bytes v) words.read_words.ensures
+          (part.slice-2.ensures ∙ ap (take p.size) (filled v) ∙ front v) (omega (arith, (start v).requires.2)),
     )
 
 pub read_chunk_spec : {M : Type 1} → statement M

@@ -14,49 +14,49 @@ use Rattle.chunks.specs.Ahead.{ahead, reading_on}
 use Rattle.chunks.proofs.read_samples.Statement.{statement}
 use Rattle.chunks.proofs.read_samples.Tie as tie
 
-abbrev invariant-loop : tie.invariant-loop
+abbrev invariant-loop : tie.invariant-loop-at
 invariant-loop body output₀ n cipher₀ at₀ output cipher at =
     (at ≤ length body) × (at % 1024 ≡ 0) × (length output ≡ length output₀)
     × (ahead cipher ≡ from at (ahead cipher₀))
     × (output ≡ read word_of (ahead cipher₀) body output₀ at)
 
-abbrev decreases-loop : tie.decreases-loop
+abbrev decreases-loop : tie.decreases-loop-at
 decreases-loop body output₀ n cipher₀ at₀ output cipher at = length body - at
 
-returns : tie.Need-returns invariant-loop decreases-loop
+returns : tie.Need-returns-then-output-n invariant-loop decreases-loop
 unfolding reading_on
 returns c = left_at _ _ _ 0 tt (omega arith)
 
-loop-holds : tie.Need-loop-init invariant-loop decreases-loop
+loop-holds : tie.Need-loop-at-init invariant-loop decreases-loop
 loop-holds c =
     let p = c.before.before.args in
     let k : Keystream = ahead p.start in
-    (omega arith, refl, refl, sym (from_zero k), nothing_read word_of k p.body.now p.output.now)
+    (omega arith, refl, refl, sym (from_zero k), nothing_read word_of k p.body.now p.output-1.now)
 
-loop-again : tie.Need-loop-preserved invariant-loop decreases-loop
+loop-again : tie.Need-loop-at-preserved invariant-loop decreases-loop
 loop-again c =
     let m = c.before in
-    let l = m.before.before.before.loop in
+    let l = m.before.before.before.loop-at in
     let p = m.before.before.before.before.before.before.args in
-    let more = further word_of (ahead p.start) p.body.now p.output.now l.output l.at 1024 (omega arith)
-    (omega arith) (omega arith) l.invariant.3 l.invariant.4 m.read-chunk.ensures.0 m.read-chunk.ensures.1 in
-    (omega arith, omega arith, m.read-chunk.auto.1.1.0 ∙ l.invariant.2, more.0, more.1)
+    let more = further word_of (ahead p.start) p.body.now p.output-1.now l.output-1 l.at 1024 (omega arith)
+    (omega arith) (omega arith) l.invariant.3 l.invariant.4 m.read_chunk-cipher.ensures.0 m.read_chunk-cipher.ensures.1 in
+    (omega arith, omega arith, m.read_chunk-cipher.auto.1.1.0 ∙ l.invariant.2, more.0, more.1)
 
-same_length : tie.Need-same-length invariant-loop decreases-loop
-same_length c = let m = c.before in m.read-chunk2.auto.1.1.0 ∙ m.before.before.before.loop.invariant.2
+same_length : tie.Need-shape_of-output invariant-loop decreases-loop
+same_length c = let m = c.before in m.read_chunk.auto.1.1.0 ∙ m.before.before.before.loop-at.invariant.2
 
-returns-2 : tie.Need-returns-2 invariant-loop decreases-loop
+returns-2 : tie.Need-returns invariant-loop decreases-loop
 unfolding reading_on
 returns-2 c =
     let m = c.before in
-    let l = m.before.before.before.loop in
+    let l = m.before.before.before.loop-at in
     let p = m.before.before.before.before.before.before.args in
     let k : Keystream = ahead p.start in
     let n : ℕ = length p.body.now in
-    let all = further word_of k p.body.now p.output.now l.output l.at (n % 1024) (omega arith)
-    (omega arith) (omega arith) l.invariant.3 l.invariant.4 m.read-chunk2.ensures.0 m.read-chunk2.ensures.1 in
+    let all = further word_of k p.body.now p.output-1.now l.output-1 l.at (n % 1024) (omega arith)
+    (omega arith) (omega arith) l.invariant.3 l.invariant.4 m.read_chunk.ensures.0 m.read_chunk.ensures.1 in
     ap₂ (λ (q : Keystream) (d : List ℤ). outcome q d) (all.0 ∙ ap (λ (x : ℕ). from x k) (omega arith))
-    (all.1 ∙ all_read word_of k p.body.now p.output.now (l.at + n % 1024) (omega arith) (omega arith))
+    (all.1 ∙ all_read word_of k p.body.now p.output-1.now (l.at + n % 1024) (omega arith) (omega arith))
     ∙ done_if _ _ _ (omega arith, tt)
 
 pub read_samples_spec : {M : Type 1} → statement M

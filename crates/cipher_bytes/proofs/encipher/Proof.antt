@@ -10,11 +10,11 @@ use Rattle.cipher_bytes.proofs.Record.{length_cipher, cipher_read, cipher_writte
 use Rattle.cipher_bytes.proofs.encipher.Statement.{statement}
 use Rattle.cipher_bytes.proofs.encipher.Tie as tie
 
-returns : tie.Need-returns
+returns : tie.Need-returns-then-cipher-ne-CIPHER_BYTES
 unfolding cipher_encipher
 returns c = left_at _ _ _ 0 tt (omega arith)
 
-returns-2 : tie.Need-returns-2
+returns-2 : tie.Need-returns-then-refusal-ne-ACCEPTED
 unfolding cipher_encipher enciphering
 returns-2 c =
     let s = c.before.before.before in
@@ -22,11 +22,11 @@ returns-2 c =
     let t = i.before.before.before in
     let p = t.before.before.before.before.args in
     kept_refused cipher_size cipher_in cipher_bytes ahead skipping answered (λ a. a.refusal) (λ a. a.next) (λ n r. refl)
-    (λ n r. refl) p.cipher.now p.input.now p.output.now s.encipher.ensures
-    (cipher_read p.cipher.now i.before.six-words-in.ensures i.registers-of.ensures)
-    (omega arith) c.if2.true
+    (λ n r. refl) p.cipher-1.now p.input.now p.output-1.now s.encipher-done.ensures
+    (cipher_read p.cipher-1.now i.before.six_words_in.ensures i.registers_of-registers.ensures)
+    (omega arith) c.if-refusal-ne-ACCEPTED.true
 
-returns-3 : tie.Need-returns-3
+returns-3 : tie.Need-returns
 unfolding cipher_encipher enciphering
 returns-3 c =
     let s = c.before.before.before.before.before.before.before.before in
@@ -34,10 +34,10 @@ returns-3 c =
     let t = i.before.before.before in
     let p = t.before.before.before.before.args in
     kept_done cipher_size cipher_in cipher_bytes ahead skipping answered (λ a. a.refusal) (λ a. a.next) (λ n r. refl)
-    (λ n r. refl) p.cipher.now p.input.now p.output.now s.encipher.ensures
-    (cipher_read p.cipher.now i.before.six-words-in.ensures i.registers-of.ensures)
-    (omega arith) length_cipher c.before.before.before.before.before.if2.false
-    (cipher_written _ _ c.before.before.before.words_of.ensures c.before.before.write-six-words.ensures)
+    (λ n r. refl) p.cipher-1.now p.input.now p.output-1.now s.encipher-done.ensures
+    (cipher_read p.cipher-1.now i.before.six_words_in.ensures i.registers_of-registers.ensures)
+    (omega arith) length_cipher c.before.before.before.before.before.if-refusal-ne-ACCEPTED.false
+    (cipher_written _ _ c.before.before.before.words_of.ensures c.before.before.write_six_words.ensures)
 
 pub encipher_spec : {M : Type 1} → statement M
 encipher_spec =

@@ -9,7 +9,7 @@ use Rattle.end_faults.proofs.four_there.Tie as tie
 returns : tie.Need-returns
 returns c =
     let p = c.before.before.before.args in
-    c.four-at.ensures ∙ number_lent p.file.now p.at 4
+    c.four_at.ensures ∙ number_lent p.file.now p.at 4
 
 pub four_there_spec : {M : Type 1} → statement M
 four_there_spec =

@@ -9,44 +9,44 @@ use Rattle.pack.proofs.Picking.{short_value}
 use Rattle.end_faults.proofs.loop_fault.Statement.{statement}
 use Rattle.end_faults.proofs.loop_fault.Tie as tie
 
-returns : tie.Need-returns
-returns c = c.verdict-of.ensures ∙ verdict_at 0 _ (omega arith) (omega arith) (omega arith)
+returns : tie.Need-returns-then-file-start
+returns c = c.verdict_of.ensures ∙ verdict_at 0 _ (omega arith) (omega arith) (omega arith)
 
-cast-count : tie.Need-overflow-cast-count
-cast-count c = omega (arith, c.shared-slice-known2.given c.before.before.before.args.at)
+cast-count : tie.Need-overflow_cast-count
+cast-count c = omega (arith, c.shared_slice_known-2-1.given c.before.before.before.args.at)
 
-returns-2 : tie.Need-returns-2
-returns-2 c = c.verdict-of2.ensures ∙ verdict_at 1 _ (omega arith) (omega arith) (omega arith)
+returns-2 : tie.Need-returns-then-count-gt-MOST_LOOPS
+returns-2 c = c.verdict_of-then-count-gt-MOST_LOOPS.ensures ∙ verdict_at 1 _ (omega arith) (omega arith) (omega arith)
 
-returns-3 : tie.Need-returns-3
-returns-3 c = c.verdict-of3.ensures ∙ verdict_at 2 _ (omega arith) (omega arith) (omega arith)
+returns-3 : tie.Need-returns-then-file-end
+returns-3 c = c.verdict_of-then-file-end.ensures ∙ verdict_at 2 _ (omega arith) (omega arith) (omega arith)
 
 -- a tag section is short, whatever the cipher
-tag-fault-requires : tie.Need-tag-fault-requires
+tag-fault-requires : tie.Need-tag_fault-requires
 tag-fault-requires c κs =
     let kind = c.before.before.before.before.before.before.before.before.args.kind in
-    let short = short_value kind in (omega arith, omega (arith, c.tag-length.ensures))
+    let short = short_value kind in (omega arith, omega (arith, c.tag_length.ensures))
 
-returns-4 : tie.Need-returns-4
+returns-4 : tie.Need-returns-then-loops_good
 returns-4 c =
     let size = c.before in
     let good = size.before in
     let kind = good.before.before.before.before.before.before.before.args.kind in
-    c.tag-fault.ensures (cipher_of kind) (sym size.tag-length.ensures)
+    c.tag_fault.ensures (cipher_of kind) (sym size.tag_length.ensures)
     ∙ verdict_from 4 _ (
       omega arith,
       (
         omega arith,
-        (omega arith, (sym good.before.loops_good_lem.ensures ∙ good.if4.true, tt)),
+        (omega arith, (sym good.before.loops_good_lem.ensures ∙ good.if-loops_good.true, tt)),
       ),
     )
 
-returns-5 : tie.Need-returns-5
+returns-5 : tie.Need-returns
 returns-5 c =
     let bad = c.before in
-    c.verdict-of4.ensures
+    c.verdict_of-2.ensures
     ∙ verdict_at 3 _
-    (omega arith, (omega arith, (omega arith, sym bad.before.loops_good_lem.ensures ∙ bad.if4.false))) (omega arith)
+    (omega arith, (omega arith, (omega arith, sym bad.before.loops_good_lem.ensures ∙ bad.if-loops_good.false))) (omega arith)
     (omega arith)
 
 pub loop_fault_spec : {M : Type 1} → statement M

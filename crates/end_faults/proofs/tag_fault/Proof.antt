@@ -32,41 +32,41 @@ count_none cipher file at none = ap (number_at file at) zero
     zero : min cipher.tag_bytes 1 ≡ 0
     zero = omega arith
 
-returns : tie.Need-returns
+returns : tie.Need-returns-then-size-eq0
 returns c cipher e =
     let p = c.before.before.before.args in
     let f = p.file.now in
     let ends : p.at ≡ tag_end cipher p.at = omega arith in
     let count = count_none cipher f p.at (omega arith) in
-    c.end-fault.ensures
+    c.end_fault.ensures
     ∙ ap (λ (n : ℕ). verdict (end_faults f n)) ends
     ∙ verdict_from 3 _ (omega arith, (omega arith, (omega arith, tt)))
 
-returns-2 : tie.Need-returns-2
-returns-2 c cipher e = c.verdict-of.ensures ∙ verdict_at 0 _ (omega arith) (omega arith) (omega arith)
+returns-2 : tie.Need-returns-then-file-at
+returns-2 c cipher e = c.verdict_of.ensures ∙ verdict_at 0 _ (omega arith) (omega arith) (omega arith)
 
-cast-count : tie.Need-overflow-cast-count
-cast-count c = omega (arith, c.shared-slice-known2.given c.before.before.before.before.args.at)
+cast-count : tie.Need-overflow_cast-count
+cast-count c = omega (arith, c.shared_slice_known-2-1.given c.before.before.before.before.args.at)
 
-returns-3 : tie.Need-returns-3
+returns-3 : tie.Need-returns-then-count-size
 returns-3 c cipher e =
     let p = c.before.before.before.before.before.before.args in
     let count = count_there cipher p.file.now p.at (omega arith) (omega arith) in
-    c.verdict-of2.ensures ∙ verdict_at 1 _ (omega arith, λ same. omega arith) (omega arith) (omega arith)
+    c.verdict_of-then-count-size.ensures ∙ verdict_at 1 _ (omega arith, λ same. omega arith) (omega arith) (omega arith)
 
-returns-4 : tie.Need-returns-4
+returns-4 : tie.Need-returns-then-file-end
 returns-4 c cipher e =
     let p = c.before.before.before.before.before.before.before.args in
     let count = count_there cipher p.file.now p.at (omega arith) (omega arith) in
-    c.verdict-of3.ensures ∙ verdict_at 2 _ (omega arith, (omega arith, omega arith)) (omega arith) (omega arith)
+    c.verdict_of-then-file-end.ensures ∙ verdict_at 2 _ (omega arith, (omega arith, omega arith)) (omega arith) (omega arith)
 
-returns-5 : tie.Need-returns-5
+returns-5 : tie.Need-returns
 returns-5 c cipher e =
     let p = c.before.before.before.before.before.before.before.args in
     let f = p.file.now in
     let ends : p.at + p.size ≡ tag_end cipher p.at = omega arith in
     let count = count_there cipher f p.at (omega arith) (omega arith) in
-    c.end-fault2.ensures
+    c.end_fault-2.ensures
     ∙ ap (λ (n : ℕ). verdict (end_faults f n)) ends
     ∙ verdict_from 3 _ (omega arith, (omega arith, (omega arith, tt)))
 

@@ -9,7 +9,7 @@ returns : tie.Need-returns
 returns c =
     let p = c.before.before.before.before.before.before.before.before.before.args in (
       simp length-set (omega arith),
-      slid p.w.now p.at p.a0 p.a1 (omega arith) (omega arith) c.mixed.ensures
+      slid p.w.now p.at p.a0 p.a1 (omega arith) (omega arith) c.mixed-next.ensures
           (omega arith) (omega arith) (omega arith) (omega arith)
           (omega arith) (omega arith) (omega arith) (omega arith)
           (omega arith) (omega arith) (omega arith) (omega arith),

@@ -10,9 +10,9 @@ returns c =
     let known = second.before.before in
     let p = known.before.args in
     taken_out p.w.now p.at p.a0 p.a1 (omega arith)
-    (λ i. omega (arith, known.shared-slice-known.given i))
-    (omega (arith, second.before.word-there.ensures)) (omega (arith, second.word-there2.ensures))
-    (omega (arith, c.before.word-there3.ensures)) (omega (arith, c.word-there4.ensures))
+    (λ i. omega (arith, known.shared_slice_known-1.given i))
+    (omega (arith, second.before.word_there-b0.ensures)) (omega (arith, second.word_there-b1.ensures))
+    (omega (arith, c.before.word_there-b2.ensures)) (omega (arith, c.word_there-b3.ensures))
 
 pub taken_spec : {M : Type 1} → statement M
 taken_spec =

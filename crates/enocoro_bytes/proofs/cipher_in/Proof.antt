@@ -13,14 +13,14 @@ returns c =
     let known = c.before.before.before.before.before.before in
     let bytes : List ℕ = known.before.args.bytes.now in
     let read : (at : ℕ) → word (number_at bytes at 8) ≡ number_at bytes at 8 =
-    λ at. number_read bytes at 8 (λ i. omega (arith, known.shared-slice-known.given i)) (omega arith) in
+    λ at. number_read bytes at 8 (λ i. omega (arith, known.shared_slice_known-1.given i)) (omega arith) in
     cipher_read bytes
     (byte_there bytes 0 (omega arith) (omega arith))
     (byte_there bytes 1 (omega arith) (omega arith))
-    (omega (arith, c.before.before.before.number_at.ensures, read 2))
-    (omega (arith, c.before.before.number-at2.ensures, read 10))
-    (omega (arith, c.before.number-at3.ensures, read 18))
-    (omega (arith, c.number-at4.ensures, read 26))
+    (omega (arith, c.before.before.before.number_at-b0.ensures, read 2))
+    (omega (arith, c.before.before.number_at-b1.ensures, read 10))
+    (omega (arith, c.before.number_at-b2.ensures, read 18))
+    (omega (arith, c.number_at-b3.ensures, read 26))
 
 pub cipher_in_spec : {M : Type 1} → statement M
 cipher_in_spec =

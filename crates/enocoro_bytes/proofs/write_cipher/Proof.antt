@@ -8,14 +8,14 @@ use Rattle.enocoro_bytes.specs.Record.{enocoro_widths, enocoro_numbers, enocoro_
 use Rattle.enocoro_bytes.proofs.write_cipher.Statement.{statement}
 use Rattle.enocoro_bytes.proofs.write_cipher.Tie as tie
 
-returns : tie.Need-returns
+returns : tie.Need-returns-then-d-lt-CIPHER_BYTES
 unfolding enocoro_bytes
 returns c =
     let p = c.before.before.args in
-    put_none p.d.now 0 (enocoro_bytes p.cipher)
+    put_none p.d-1.now 0 (enocoro_bytes p.cipher)
     (rw (length_row enocoro_widths (enocoro_numbers p.cipher)) (omega arith))
 
-returns-2 : tie.Need-returns-2
+returns-2 : tie.Need-returns
 unfolding enocoro_bytes
 returns-2 c =
     let six = c.before.before in
@@ -26,18 +26,18 @@ returns-2 c =
     let one = two.before.before.before.before in
     let p = one.before.before.before.before.args in
     let r = p.cipher in
-    then_written 26 8 r.b3 six.write-word4.ensures
-    (then_written 18 8 r.b2 five.write-word3.ensures
-    (then_written 10 8 r.b1 four.write-word2.ensures
+    then_written 26 8 r.b3 six.write_word-4.ensures
+    (then_written 18 8 r.b2 five.write_word-3.ensures
+    (then_written 10 8 r.b1 four.write_word-2.ensures
     (then_written 2 8 r.b0 three.write_word.ensures
-    (then_written 1 1 r.a1 two.write-number2.ensures
-    (then_written 0 1 r.a0 one.write-number.ensures refl (omega arith) (omega arith) (omega arith))
+    (then_written 1 1 r.a1 two.write_number-2.ensures
+    (then_written 0 1 r.a0 one.write_number.ensures refl (omega arith) (omega arith) (omega arith))
     (omega arith) (omega arith) (omega arith))
     (omega arith) (omega arith) (omega arith))
     (omega arith) (omega arith) (omega arith))
     (omega arith) (omega arith) (omega arith))
     (omega arith) (omega arith) (omega arith)
-    ∙ row_written p.d.now enocoro_widths (enocoro_numbers r) 0 (omega arith)
+    ∙ row_written p.d-1.now enocoro_widths (enocoro_numbers r) 0 (omega arith)
 
 pub write_cipher_spec : {M : Type 1} → statement M
 write_cipher_spec =

@@ -9,7 +9,7 @@ returns : tie.Need-returns
 returns c =
     let p = c.before.before.before.args in
     one_round p.registers (omega arith) (omega arith)
-    (gone_over p.registers _ {n = 1} c.before.cover.ensures (omega arith)) (omega arith)
+    (gone_over p.registers _ {n = 1} c.before.cover-next.ensures (omega arith)) (omega arith)
 
 pub round_spec : {M : Type 1} → statement M
 round_spec = tie.close (tie.spec (λ c. refl) (λ c κs. tt) returns)

@@ -8,13 +8,13 @@ use Rattle.enocoro.proofs.{States.skip_none, Stretches.gone_over, Stretches.gone
 use Rattle.enocoro_runs.proofs.skip.Statement.{statement}
 use Rattle.enocoro_runs.proofs.skip.Tie as tie
 
-abbrev invariant-loop : tie.invariant-loop
+abbrev invariant-loop : tie.invariant-loop-left
 invariant-loop bytes moved₀ left₀ moved left = (left ≤ bytes) × (moved ≡ skipping moved₀ (bytes - left))
 
-abbrev decreases-loop : tie.decreases-loop
+abbrev decreases-loop : tie.decreases-loop-left
 decreases-loop bytes moved₀ left₀ moved left = left
 
-loop-holds : tie.Need-loop-init invariant-loop decreases-loop
+loop-holds : tie.Need-loop-left-init invariant-loop decreases-loop
 loop-holds c =
     let p = c.args in (
       omega arith,
@@ -30,21 +30,21 @@ loop-holds c =
           ∙ ap (skipping p.registers) (omega arith),
     )
 
-loop-again : tie.Need-loop-preserved invariant-loop decreases-loop
+loop-again : tie.Need-loop-left-preserved invariant-loop decreases-loop
 loop-again c =
     let cover = c.before in
-    let size = cover.before.before.at-most-256.result in
-    let l = cover.before.before.before.before.before.loop in
+    let size = cover.before.before.at_most_256-size.result in
+    let l = cover.before.before.before.before.before.loop-left in
     let p = cover.before.before.before.before.before.before.args in (
       omega arith,
       gone_on p.registers l.moved (p.bytes - l.left) size l.invariant.1
-          (gone_over l.moved _ cover.cover.ensures (simp length-take (omega arith)))
+          (gone_over l.moved _ cover.cover-moved.ensures (simp length-take (omega arith)))
           (omega arith),
     )
 
 returns : tie.Need-returns invariant-loop decreases-loop
 returns c =
-    let l = c.before.loop in
+    let l = c.before.loop-left in
     l.invariant.1 ∙ ap (skipping c.before.before.args.registers) (omega arith)
 
 pub skip_spec : {M : Type 1} → statement M

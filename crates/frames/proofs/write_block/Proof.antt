@@ -29,42 +29,42 @@ module _ (key pair : List ℕ) (session k : ℕ) where
       let long = length_block session k (covered trivium key pair session k run) in
       put_none d 0 (frame_of run) (omega arith) ∙ framed d e
 
-returns : tie.Need-returns
+returns : tie.Need-returns-then-frame-lt8
 returns c =
     let p = c.before.before.before.before.args in
-    no_room p.key.now p.pair.now p.session p.k p.frame.now c.before.slice.ensures (omega arith)
+    no_room p.key.now p.pair.now p.session p.k p.frame-1.now c.before.slice-run.ensures (omega arith)
 
-returns-2 : tie.Need-returns-2
+returns-2 : tie.Need-returns-then-frame-n
 returns-2 c =
     let sliced = c.before.before in
     let p = sliced.before.before.before.args in
-    no_room p.key.now p.pair.now p.session p.k p.frame.now sliced.slice.ensures (omega arith)
+    no_room p.key.now p.pair.now p.session p.k p.frame-1.now sliced.slice-run.ensures (omega arith)
 
-returns-3 : tie.Need-returns-3
+returns-3 : tie.Need-returns
 returns-3 c =
     let covering = c.before.before in
     let counted = covering.before.before.before.before in
     let headed = counted.before.before.before.before in
     let sliced = headed.before.before.before.before in
     let p = sliced.before.before.before.args in
-    let d : List ℕ = p.frame.now in
-    let R = sliced.slice.result.now in
+    let d : List ℕ = p.frame-1.now in
+    let R = sliced.slice-run.result.now in
     let run : List ℕ = covered trivium p.key.now p.pair.now p.session p.k R in
     let same = length_covered trivium p.key.now p.pair.now p.session p.k R in
     let first : List ℕ = short 2 p.session 2 p.k in
     let head = length_short 2 p.session 2 p.k in
     let long = length_block p.session p.k run in
     let front =
-    with_number (λ (n : ℕ). put d 0 (short 2 p.session 2 n)) p.k headed.write-short.ensures (omega arith)
+    with_number (λ (n : ℕ). put d 0 (short 2 p.session 2 n)) p.k headed.write_short.ensures (omega arith)
     ∙ put_placed d 0 first (omega arith) in
     with_number
-    (λ (n : ℕ). put counted.write-number.new.0 8 (covered trivium p.key.now p.pair.now p.session n R))
+    (λ (n : ℕ). put counted.write_number.new.0 8 (covered trivium p.key.now p.pair.now p.session n R))
     p.k covering.cover.ensures (omega arith)
     ∙ ap (λ (e : List ℕ). put e 8 run)
-    (counted.write-number.ensures ∙ (λ j. put (front j) 7 (digits 256 1 (sym same j))))
+    (counted.write_number.ensures ∙ (λ j. put (front j) 7 (digits 256 1 (sym same j))))
     ∙ block_written d p.session p.k run (omega arith)
     ∙ sym (put_placed d 0 (bytes (block p.session p.k run)) (omega arith))
-    ∙ framed p.key.now p.pair.now p.session p.k d sliced.slice.ensures
+    ∙ framed p.key.now p.pair.now p.session p.k d sliced.slice-run.ensures
 
 pub write_block_spec : {M : Type 1} → statement M
 write_block_spec =

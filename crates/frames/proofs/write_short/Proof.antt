@@ -16,25 +16,25 @@ no_room d kind session width number h =
     let long = length_short kind session width number in
     put_none d 0 (short kind session width number) (omega arith)
 
-returns : tie.Need-returns
+returns : tie.Need-returns-then-frame-lt5
 returns c = no_room _ _ _ _ _ (omega arith)
 
-returns-2 : tie.Need-returns-2
+returns-2 : tie.Need-returns-then-frame-width
 returns-2 c = no_room _ _ _ _ _ (omega arith)
 
-returns-3 : tie.Need-returns-3
+returns-3 : tie.Need-returns
 returns-3 c =
     let three = c.before.before in
     let two = three.before.before.before.before in
     let one = two.before.before.before.before in
     let p = one.before.before.before.before.before.args in
     let long = length_short p.kind p.session p.width p.number in
-    with_number (λ (n : ℕ). put two.write-number2.new.0 5 (digits 256 p.width n)) p.number
-    three.write-number3.ensures (omega arith)
+    with_number (λ (n : ℕ). put two.write_number-2.new.0 5 (digits 256 p.width n)) p.number
+    three.write_number-3.ensures (omega arith)
     ∙ ap (λ (d : List ℕ). put d 5 (digits 256 p.width p.number))
-    (two.write-number2.ensures
-    ∙ ap (λ (d : List ℕ). put d 1 (digits 256 4 p.session)) one.write-number.ensures)
-    ∙ row_written p.frame.now (1 ∷ 4 ∷ p.width ∷ []) (p.kind ∷ p.session ∷ p.number ∷ []) 0 (omega arith)
+    (two.write_number-2.ensures
+    ∙ ap (λ (d : List ℕ). put d 1 (digits 256 4 p.session)) one.write_number.ensures)
+    ∙ row_written p.frame-1.now (1 ∷ 4 ∷ p.width ∷ []) (p.kind ∷ p.session ∷ p.number ∷ []) 0 (omega arith)
 
 pub write_short_spec : {M : Type 1} → statement M
 write_short_spec =

@@ -31,62 +31,62 @@ due_ring Triad first second third file = refl
 
 -- ---- a survey that isn't refused
 
-module _ (c : tie.Else1) where
+module _ (c : tie.Else-refusal-ne-ACCEPTED) where
   abbrev file : List ℕ
   file = c.before.before.before.args.file.now
 
   passed : accepted ≡ first (file_faults (cipher_in file) file)
   passed =
-      sym c.if1.false ∙ ap (λ (o : Opened). o.refusal) c.before.survey.ensures
+      sym c.if-refusal-ne-ACCEPTED.false ∙ ap (λ (o : Opened). o.refusal) c.before.survey-opened.ensures
       ∙ survey_refusal (cipher_in file) file
 
   right : AllRight (file_faults (cipher_in file) file)
   right = file_right (cipher_in file) file (sym passed)
 
-  answered : c.before.survey.result ≡ accepted_opening (cipher_in file) file
+  answered : c.before.survey-opened.result ≡ accepted_opening (cipher_in file) file
   unfolding surveying
-  answered = c.before.survey.ensures ∙ sym (settled_done _ _ _ passed)
+  answered = c.before.survey-opened.ensures ∙ sym (settled_done _ _ _ passed)
 
   known : Shown (cipher_in file) file
   known = shown (cipher_in file) file right
 
-  value : c.before.survey.result.value_at ≡ key_place file + 2
+  value : c.before.survey-opened.result.value_at ≡ key_place file + 2
   value = ap (λ (o : Opened). o.value_at) answered
 
 -- the count stands two bytes before the value, and picks the cipher
-kind_is : (c : tie.After-kind-of) → c.kind-of.result ≡ kind_in (file c.before.before)
+kind_is : (c : tie.After-kind_of-kind) → c.kind_of-kind.result ≡ kind_in (file c.before.before)
 kind_is c =
     let e = c.before.before in
-    c.kind-of.ensures ∙ ap (λ (n : ℕ). picked (byte_at (file e) n)) (omega (arith, value e))
+    c.kind_of-kind.ensures ∙ ap (λ (n : ℕ). picked (byte_at (file e) n)) (omega (arith, value e))
 
-returns : tie.Need-returns
+returns : tie.Need-returns-then-refusal-ne-ACCEPTED
 unfolding inspecting
 returns c =
     let p = c.before.before.before.args in
     let f = p.file.now in
     let cipher = cipher_in f in
     let ring = ring_in (rings p.ring p.second p.third) f in
-    let o : Opened = c.before.survey.result in
+    let o : Opened = c.before.survey-opened.result in
     let told : o.refusal ≡ first (file_faults cipher f) =
-    ap (λ (a : Opened). a.refusal) c.before.survey.ensures ∙ survey_refusal cipher f in
+    ap (λ (a : Opened). a.refusal) c.before.survey-opened.ensures ∙ survey_refusal cipher f in
     let none : o ≡ refused_opening (lacks_of cipher f) o.refusal =
-    subst (Leaves (λ a. a.refusal) (refused_opening (lacks_of cipher f))) (sym c.before.survey.ensures)
+    subst (Leaves (λ a. a.refusal) (refused_opening (lacks_of cipher f))) (sym c.before.survey-opened.ensures)
     (surveying_leaves cipher f)
-    c.if1.true in
-    none ∙ settled_left _ _ _ o.refusal c.if1.true (file_first cipher ring f o.refusal c.if1.true told)
+    c.if-refusal-ne-ACCEPTED.true in
+    none ∙ settled_left _ _ _ o.refusal c.if-refusal-ne-ACCEPTED.true (file_first cipher ring f o.refusal c.if-refusal-ne-ACCEPTED.true told)
 
-tag-wrong-requires : tie.Need-tag-wrong-requires
+tag-wrong-requires : tie.Need-tag_wrong-requires
 tag-wrong-requires c κs =
     let e = c.before.before in
     subst
     (λ (k : Kind).
-    (e.before.survey.result ≡ accepted_opening (cipher_of k) (file e))
+    (e.before.survey-opened.result ≡ accepted_opening (cipher_of k) (file e))
     × (accepted ≡ first (file_faults (cipher_of k) (file e))))
     (sym (kind_is c)) (answered e, passed e)
 
 -- what was found of the tags, under the file's own cipher and ring
-module _ (w : tie.After-tag-wrong) where
-  abbrev e : tie.Else1
+module _ (w : tie.After-tag_wrong) where
+  abbrev e : tie.Else-refusal-ne-ACCEPTED
   e = w.before.before.before
 
   abbrev mine : List (List ℕ)
@@ -98,17 +98,17 @@ module _ (w : tie.After-tag-wrong) where
   abbrev there : ℕ
   there = tag_in (cipher_in (file e)) (file e) (tag_place (cipher_in (file e)) (file e))
 
-  found : w.tag-wrong.result ≡ not (eqb due there)
+  found : w.tag_wrong.result ≡ not (eqb due there)
   found =
       let p = e.before.before.before.args in
-      w.tag-wrong.ensures
+      w.tag_wrong.ensures
       ∙ ap
       (λ (k : Kind). not (eqb (tag_due (cipher_of k) p.third (file e)) (tag_in (cipher_of k) (file e) (tag_place
       (cipher_of k) (file e)))))
       (kind_is w.before)
       ∙ ap (λ (n : ℕ). not (eqb n there)) (due_ring (kind_in (file e)) p.ring p.second p.third (file e))
 
-returns-2 : tie.Need-returns-2
+returns-2 : tie.Need-returns-then-tag_wrong
 unfolding inspecting keyed_faults
 returns-2 c =
     let w = c.before.before in
@@ -116,21 +116,21 @@ returns-2 c =
     let cipher = cipher_in f in
     let none : 0 ≡ lacks_of cipher f = ap (λ (v : Verdict). v.lacks) (verdict_right _ (right (e w))) in
     let differ : there w ≢ due w =
-    λ same. eqb-false (due w) (there w) (not-true (eqb (due w) (there w)) (sym (found w) ∙ c.before.if2.true))
+    λ same. eqb-false (due w) (there w) (not-true (eqb (due w) (there w)) (sym (found w) ∙ c.before.if-tag_wrong.true))
     (sym same) in
-    lacking_so _ _ _ c.refused-opening.ensures (lacks_of cipher f) none
+    lacking_so _ _ _ c.refused_opening.ensures (lacks_of cipher f) none
     ∙ settled_left _ _ _ wrong_tag (omega arith)
     (refused_at 0 (tag_faults cipher (mine w) f) differ
     ∙ first_later (file_faults cipher f) (tag_faults cipher (mine w) f) (file_numbered cipher f) (passed (e w)))
 
-returns-3 : tie.Need-returns-3
+returns-3 : tie.Need-returns
 unfolding inspecting
 returns-3 c =
     let w = c.before in
     let f = file (e w) in
     let cipher = cipher_in f in
     let same : there w ≡ due w =
-    sym (eqb-true (due w) (there w) (not-false (eqb (due w) (there w)) (sym (found w) ∙ c.if2.false))) in
+    sym (eqb-true (due w) (there w) (not-false (eqb (due w) (there w)) (sym (found w) ∙ c.if-tag_wrong.false))) in
     answered (e w) ∙ settled_done _ _ _ (all_right _ (keyed_right cipher (mine w) f (right (e w)) same))
 
 pub inspect_spec : {M : Type 1} → statement M

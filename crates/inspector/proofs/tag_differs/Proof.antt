@@ -89,7 +89,7 @@ module _ (s : tie.Start) where
   unfolding tag_due plain_of
   due_by due small e = e ∙ sym (mod-eq_of_lt (subst (λ (n : ℕ). n < 2 ^ 64) e small))
 
-abbrev start : tie.After-slice → tie.Start
+abbrev start : tie.After-slice-front → tie.Start
 start f = f.before.before.before.before.before.before
 
 returns : tie.Need-returns
@@ -101,29 +101,29 @@ returns c =
     let f = v.before in
     let s = start f in
     let t = as_told s in
-    let long : length v.slice2.result.now ≡ 12 =
-    ap length v.slice2.ensures
+    let long : length v.slice-value.result.now ≡ 12 =
+    ap length v.slice-value.ensures
     ∙ length_slice (file s) (told s).value_at 12 (omega (arith, t.far)) in
-    let lent = named s _ v.slice2.result.now (f.slice.result.now ++ l.slice4.result.now)
-    b.slice3.result.now (d.tag_due_lem.ensures ∙ sym (done_if _ _ _ (long, tt))) (omega arith) in
+    let lent = named s _ v.slice-value.result.now (f.slice-front.result.now ++ l.slice-loops.result.now)
+    b.slice-body.result.now (d.tag_due_lem.ensures ∙ sym (done_if _ _ _ (long, tt))) (omega arith) in
     let at : ℕ = (told s).loops_at - 1 + (1 + 8 * (told s).loops) + 1 in
     let place : at ≡ tag_place triad (file s) + 1 = omega (arith, t.loop, t.many, (known s).tag) in
     let there = (word_read (file s) at 8
-    (λ i. omega (arith, f.before.before.before.before.before.shared-slice-known.given i)) (omega arith)
-    (c.number_at.ensures ∙ ap word (number_lent (file s) at 8))).0
+    (λ i. omega (arith, f.before.before.before.before.before.shared_slice_known-1.given i)) (omega arith)
+    (c.number_at-there.ensures ∙ ap word (number_lent (file s) at 8))).0
     ∙ ap (λ (n : ℕ). number_at (file s) n 8) place in
     let due = due_by s d.tag_due_lem.result (omega arith)
     (lent
     ∙ (λ i.
-    under s (told s).key (v.slice2.ensures i) (f.slice.ensures i ++ l.slice4.ensures i) (b.slice3.ensures i))
+    under s (told s).key (v.slice-value.ensures i) (f.slice-front.ensures i ++ l.slice-loops.ensures i) (b.slice-body.ensures i))
     ∙ (λ i. by s (t.key i) (t.value i) (t.body i) (t.size i) (t.loop i) (t.many i))) in
     λ i. not (eqb (due i) (there i))
 
-row_there : (c : tie.After-slice4) → (told (start c.before.before.before)).key ≤ 3
+row_there : (c : tie.After-slice-loops) → (told (start c.before.before.before)).key ≤ 3
 row_there c = (as_told (start c.before.before.before)).row
 
 -- the tag's bytes are the file's last
-tag_place_lem : (c : tie.After-tag-due) → let s = start c.before.before.before.before.before.before in
+tag_place_lem : (c : tie.After-tag_due-due) → let s = start c.before.before.before.before.before.before in
     (1 ≤ (told s).loops_at) × ((told s).loops_at + 8 * (told s).loops + 9 ≡ length (file s))
 tag_place_lem c = let t = as_told (start c.before.before.before.before.before.before) in (t.place, t.end)
 

@@ -18,8 +18,8 @@ other all (Sending known) k = absurd (miss (0 ∷ 1 ∷ 4 ∷ []) 2 tt k)
 other all Done k = absurd (miss (0 ∷ 1 ∷ 4 ∷ []) 3 tt k)
 other all (Refused why) k = refl
 
-returns-3 : tie.Need-returns-3
-returns-3 c = other c.before.args.all c.before.args.phase c.match.keys3
+returns-3 : tie.Need-returns-in_default
+returns-3 c = other c.before.args.all c.before.args.phase c.in-Sending.keys3
 
 pub known_spec : {M : Type 1} → statement M
 known_spec =

@@ -20,14 +20,14 @@ returns c =
     let count = rule.before in
     let read = count.before.before in
     let p = read.before.before.before.args in
-    let r : Receiver = read.receiver-in.result in
-    let blocks-in = count.block-count.ensures in
-    t.tell-status.ensures
-    ∙ receiver_told p.answer.now r rule.in-rule.ensures (omega arith) (omega arith) (omega arith)
+    let r : Receiver = read.receiver_in-record.result in
+    let blocks-in = count.block_count-all.ensures in
+    t.tell_status.ensures
+    ∙ receiver_told p.answer-1.now r rule.in_rule.ensures (omega arith) (omega arith) (omega arith)
     (omega (arith, blocks-in))
-    (w.whole-flag.ensures ∙ ap (λ (all : ℕ). cond (some r.session && eqb r.count all) 1 0) blocks-in)
-    ∙ ap (λ (r : Receiver). telling (receiver_in_rule r) (receiver_numbers r) p.answer.now)
-    read.receiver-in.ensures
+    (w.whole_flag.ensures ∙ ap (λ (all : ℕ). cond (some r.session && eqb r.count all) 1 0) blocks-in)
+    ∙ ap (λ (r : Receiver). telling (receiver_in_rule r) (receiver_numbers r) p.answer-1.now)
+    read.receiver_in-record.ensures
 
 pub receiver_status_spec : {M : Type 1} → statement M
 receiver_status_spec =

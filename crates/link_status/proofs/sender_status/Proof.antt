@@ -21,14 +21,14 @@ returns c =
     let phase = count.before in
     let read = phase.before in
     let p = read.before.before.before.args in
-    let s : Sender = read.sender-in.result in
-    let blocks-in = count.block-count.ensures in
-    let number : phase.phase-numbers.result.number ≡ get_or (phase_numbers s.phase) 0 0 =
-    ap (λ (l : List ℕ). get_or l 0 0) phase.phase-numbers.ensures in
-    t.tell-status.ensures
-    ∙ sender_told p.answer.now s rule.in-rule.ensures (omega (arith, number)) (omega arith) (omega arith)
+    let s : Sender = read.sender_in-record.result in
+    let blocks-in = count.block_count-all.ensures in
+    let number : phase.phase_numbers-numbers.result.number ≡ get_or (phase_numbers s.phase) 0 0 =
+    ap (λ (l : List ℕ). get_or l 0 0) phase.phase_numbers-numbers.ensures in
+    t.tell_status.ensures
+    ∙ sender_told p.answer-1.now s rule.in_rule.ensures (omega (arith, number)) (omega arith) (omega arith)
     (n.known.ensures ∙ ap (λ (all : ℕ). known_in all s.phase) blocks-in) (omega (arith, blocks-in))
-    ∙ ap (λ (s : Sender). telling (sender_in_rule s) (sender_numbers s) p.answer.now) read.sender-in.ensures
+    ∙ ap (λ (s : Sender). telling (sender_in_rule s) (sender_numbers s) p.answer-1.now) read.sender_in-record.ensures
 
 pub sender_status_spec : {M : Type 1} → statement M
 sender_status_spec =

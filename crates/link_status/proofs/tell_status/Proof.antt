@@ -9,19 +9,19 @@ use Rattle.refusals.proofs.Settled.{left_at, done_if}
 use Rattle.link_status.proofs.tell_status.Statement.{statement}
 use Rattle.link_status.proofs.tell_status.Tie as tie
 
-returns : tie.Need-returns
+returns : tie.Need-returns-then-not-in_rule
 returns c = left_at _ _ _ 0 tt (search (needs, not-true))
 
-returns-2 : tie.Need-returns-2
+returns-2 : tie.Need-returns-then-answer-lt-NUMBERS
 returns-2 c = left_at _ _ _ 1 tt (search (needs, not-false), omega arith)
 
-returns-3 : tie.Need-returns-3
+returns-3 : tie.Need-returns
 returns-3 c =
     let room = c.before.before.before.before.before in
     let p = room.before.before.before.args in
     ap (λ (l : List ℕ). outcome accepted l)
-    (c.before.before.write-numbers.ensures ∙ put_placed p.answer.now 0 _ (omega arith))
-    ∙ done_if _ _ _ (not-false _ room.before.if1.false, (room.if2.false, tt))
+    (c.before.before.write_numbers.ensures ∙ put_placed p.answer-1.now 0 _ (omega arith))
+    ∙ done_if _ _ _ (not-false _ room.before.if-not-in_rule.false, (room.if-answer-lt-NUMBERS.false, tt))
 
 pub tell_status_spec : {M : Type 1} → statement M
 tell_status_spec =

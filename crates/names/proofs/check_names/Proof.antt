@@ -8,22 +8,22 @@ use Rattle.names.specs.Naming.{named}
 use Rattle.names.proofs.check_names.Statement.{statement}
 use Rattle.names.proofs.check_names.Tie as tie
 
-returns : tie.Need-returns
+returns : tie.Need-returns-then-key-ne-KEY_BYTES
 unfolding named
-returns c = left_at _ _ _ 0 tt c.if1.true
+returns c = left_at _ _ _ 0 tt c.if-key-ne-KEY_BYTES.true
 
-returns-2 : tie.Need-returns-2
+returns-2 : tie.Need-returns-then-pair-ne-PAIR_BYTES
 unfolding named
-returns-2 c = left_at _ _ _ 1 tt (c.before.if1.false, c.if2.true)
+returns-2 c = left_at _ _ _ 1 tt (c.before.if-key-ne-KEY_BYTES.false, c.if-pair-ne-PAIR_BYTES.true)
 
-returns-3 : tie.Need-returns-3
+returns-3 : tie.Need-returns
 unfolding named
 returns-3 c =
     let one = c.before.before.before.before in
-    let ten = one.before.before.before.if1.false in
-    let six = one.before.before.if2.false in
+    let ten = one.before.before.before.if-key-ne-KEY_BYTES.false in
+    let six = one.before.before.if-pair-ne-PAIR_BYTES.false in
     ap₂ {A = List ℕ} {B = List ℕ} (λ (key pair : List ℕ). record { refusal = 0; key = key; pair = pair })
-    (one.copy.ensures ∙ put_whole _ _ ten) (c.before.copy2.ensures ∙ put_whole _ _ six)
+    (one.copy.ensures ∙ put_whole _ _ ten) (c.before.copy-2.ensures ∙ put_whole _ _ six)
     ∙ done_if _ _ _ (ten, (six, tt))
 
 pub check_names_spec : {M : Type 1} → statement M

@@ -12,10 +12,10 @@ nothing_above : (value below : ℕ) → value < 2 ^ 64 → 8 ≤ below → 0 ≡
 nothing_above value below small high =
     sym (ap (λ (q : ℕ). q % 256) (div-eq_of_lt (lt_of_lt_of_le small (pow-le-pow_right {n = 256} (omega arith) high))))
 
-returns : tie.Need-returns
+returns : tie.Need-returns-then-below-ge8
 returns c = nothing_above c.before.args.value c.before.args.below (omega arith) (omega arith)
 
-returns-2 : tie.Need-returns-2
+returns-2 : tie.Need-returns
 returns-2 c = ap (λ (p : ℕ). c.before.args.value / p % 256) (sym (power_of_bytes c.before.args.below))
 
 pub byte_above_spec : {M : Type 1} → statement M

@@ -10,10 +10,10 @@ use Rattle.octet_writer.proofs.cover.Tie as tie
 returns : tie.Need-returns
 returns c =
     let p = c.before.before.before.before.before.before.before.args in
-    let call = c.before.before.write-number in
+    let call = c.before.before.write_number in
     call.ensures
-    ∙ ap (λ (x : ℕ). put p.bytes.now p.at (digits 256 p.n (bit_xor x p.stream)))
-    c.before.before.before.before.number_at.ensures
+    ∙ ap (λ (x : ℕ). put p.bytes-1.now p.at (digits 256 p.n (bit_xor x p.stream)))
+    c.before.before.before.before.number_at-read.ensures
 
 pub cover_spec : {M : Type 1} → statement M
 cover_spec = tie.close (tie.spec (λ c κs. tt) (λ c κs. tt) (λ c. search rules) returns)

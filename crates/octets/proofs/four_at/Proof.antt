@@ -6,11 +6,11 @@ use Rattle.octets.specs.Digits.{number_at}
 use Rattle.octets.proofs.{Numbers.word_read, four_at.Statement.statement}
 use Rattle.octets.proofs.four_at.Tie as tie
 
-read : (c : tie.After-number-at) → let p = c.before.before.args in
+read : (c : tie.After-number_at) → let p = c.before.before.args in
     (c.number_at.result ≡ number_at p.s.now p.at 4) × (c.number_at.result < 256 ^ 4)
 read c =
     let p = c.before.before.args in
-    word_read p.s.now p.at 4 (λ i. omega (arith, c.before.shared-slice-known.given i)) (omega arith)
+    word_read p.s.now p.at 4 (λ i. omega (arith, c.before.shared_slice_known-1.given i)) (omega arith)
     c.number_at.ensures
 
 pub four_at_spec : {M : Type 1} → statement M

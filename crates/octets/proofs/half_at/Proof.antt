@@ -10,9 +10,9 @@ use Rattle.octets.proofs.half_at.Statement.{statement}
 use Rattle.octets.proofs.half_at.Tie as tie
 
 -- the four that are read are bytes
-these : (c : tie.After-shared-slice-known4)
+these : (c : tie.After-shared_slice_known-4-1)
     → let p = c.before.before.before.before.args in Four 256 p.s.now p.at
-these c = below_four _ _ (λ i. omega (arith, c.shared-slice-known4.given i))
+these c = below_four _ _ (λ i. omega (arith, c.shared_slice_known-4-1.given i))
 
 returns : tie.Need-returns
 returns c =
@@ -24,13 +24,13 @@ returns c =
 pub half_at_spec : {M : Type 1} → statement M
 half_at_spec =
     tie.close
-    (tie.spec (λ c. search rules) (λ c. omega (arith, c.shared-slice-known.given c.before.args.at))
+    (tie.spec (λ c. search rules) (λ c. omega (arith, c.shared_slice_known-1.given c.before.args.at))
     (λ c. search rules)
-    (λ c. search rules) (λ c. omega (arith, c.shared-slice-known2.given (c.before.before.args.at + 1)))
+    (λ c. search rules) (λ c. omega (arith, c.shared_slice_known-2-1.given (c.before.before.args.at + 1)))
     (λ c. search rules)
-    (λ c. search rules) (λ c. omega (arith, c.shared-slice-known3.given (c.before.before.before.args.at + 2)))
+    (λ c. search rules) (λ c. omega (arith, c.shared_slice_known-3-1.given (c.before.before.before.args.at + 2)))
     (λ c. search rules) (λ c. search rules)
-    (λ c. omega (arith, c.shared-slice-known4.given (c.before.before.before.before.args.at + 3)))
+    (λ c. omega (arith, c.shared_slice_known-4-1.given (c.before.before.before.before.args.at + 3)))
     (λ c. omega (arith, these c)) (λ c. omega (arith, these c)) (λ c. omega (arith, these c))
     (λ c. omega (arith, these c))
     (λ c. omega (arith, these c)) (λ c. omega (arith, these c)) returns)

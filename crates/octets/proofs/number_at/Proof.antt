@@ -8,11 +8,11 @@ use Rattle.octets.proofs.{Shifts.moved_up, Shifts.multiple_mod, Slices.take_ther
 use Rattle.octets.proofs.Numbers.{Below, number_read, number_snoc}
 use Rattle.octets.proofs.number_at.Tie as tie
 
-abbrev invariant-loop : tie.invariant-loop
+abbrev invariant-loop : tie.invariant-loop-i
 invariant-loop s at n count value₀ i₀ value i =
     (i ≤ count) × (count ≡ min n (length s - at)) × (value ≡ word (number_at s at i))
 
-abbrev decreases-loop : tie.decreases-loop
+abbrev decreases-loop : tie.decreases-loop-i
 decreases-loop s at n count value₀ i₀ value i = count - i
 
 -- one byte more
@@ -33,47 +33,47 @@ read_more s at i h b =
 read_all : (s : List ℕ) (at n count : ℕ) → count ≡ min n (length s - at) → number_at s at count ≡ number_at s at n
 read_all s at n count e = ap (number 256) (take_there s at n count e)
 
-returns : tie.Need-returns invariant-loop decreases-loop
+returns : tie.Need-returns-then-count-eq8 invariant-loop decreases-loop
 returns c =
     let t = c.before.before in
     let p = t.before.before.args in
     let eight : 8 ≡ min p.n (length p.s.now - p.at) = omega arith in
-    let bytes : Below 256 p.s.now = λ i. omega (arith, c.before.before.before.shared-slice-known.given i) in
+    let bytes : Below 256 p.s.now = λ i. omega (arith, c.before.before.before.shared_slice_known-1.given i) in
     c.word_at.ensures ∙ sym (number_read p.s.now p.at 8 bytes (omega arith))
     ∙ ap word (read_all p.s.now p.at p.n 8 eight)
 
-loop-holds : tie.Need-loop-init invariant-loop decreases-loop
+loop-holds : tie.Need-loop-i-init invariant-loop decreases-loop
 unfolding number_after
-loop-holds c = (omega arith, c.before.there.ensures, refl)
+loop-holds c = (omega arith, c.before.there-count.ensures, refl)
 
-cast-value : tie.Need-overflow-cast-value invariant-loop decreases-loop
+cast-value : tie.Need-overflow_cast-value invariant-loop decreases-loop
 cast-value c =
     omega (
       arith,
-      c.shared-slice-known2.given
-          (c.before.before.before.before.before.before.args.at + c.before.before.loop.i),
+      c.shared_slice_known-in-loop-i-1.given
+          (c.before.before.before.before.before.before.args.at + c.before.before.loop-i.i),
     )
 
-loop-again : tie.Need-loop-preserved invariant-loop decreases-loop
+loop-again : tie.Need-loop-i-preserved invariant-loop decreases-loop
 loop-again c =
     let p = c.before.before.before.before.before.before.args in
-    let l = c.before.before.loop in (
+    let l = c.before.before.loop-i in (
       omega arith,
       l.invariant.1,
       ap (λ (v : ℕ). bit_or (v * 256 % 2 ^ 64) (get_or p.s.now (p.at + l.i) 0)) l.invariant.2
           ∙ read_more p.s.now p.at l.i (omega arith)
-          (omega (arith, c.shared-slice-known2.given (p.at + l.i))),
+          (omega (arith, c.shared_slice_known-in-loop-i-1.given (p.at + l.i))),
     )
 
-returns-2 : tie.Need-returns-2 invariant-loop decreases-loop
+returns-2 : tie.Need-returns invariant-loop decreases-loop
 returns-2 c =
     let p = c.before.before.before.before.before.args in
-    let l = c.before.loop in
-    let last : l.i ≡ c.before.before.before.there.result = omega arith in
+    let l = c.before.loop-i in
+    let last : l.i ≡ c.before.before.before.there-count.result = omega arith in
     l.invariant.2
     ∙ ap word
     (ap (number_at p.s.now p.at) last
-    ∙ read_all p.s.now p.at p.n c.before.before.before.there.result l.invariant.1)
+    ∙ read_all p.s.now p.at p.n c.before.before.before.there-count.result l.invariant.1)
 
 pub number_at_spec : {M : Type 1} → statement M
 number_at_spec =

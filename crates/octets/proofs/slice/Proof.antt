@@ -7,20 +7,20 @@ use Rattle.octets.specs.Buffers.{slice}
 use Rattle.octets.proofs.{Slices.take_there, slice.Statement.statement}
 use Rattle.octets.proofs.slice.Tie as tie
 
-returns : tie.Need-returns
+returns : tie.Need-returns-then-count-eq0
 returns c =
     let p = c.before.before.before.before.args in
-    let none : 0 ≡ c.before.before.there.result = omega arith in
+    let none : 0 ≡ c.before.before.there-count.result-1 = omega arith in
     ap (slice p.s.now p.at) none
-    ∙ take_there p.s.now p.at p.n c.before.before.there.result c.before.before.there.ensures
+    ∙ take_there p.s.now p.at p.n c.before.before.there-count.result-1 c.before.before.there-count.ensures
 
-returns-2 : tie.Need-returns-2
+returns-2 : tie.Need-returns
 returns-2 c =
     let p = c.before.before.before.before.args in
-    let count : ℕ = c.before.before.there.result in
+    let count : ℕ = c.before.before.there-count.result-1 in
     let whole : p.at + count - p.at ≡ count = omega arith in
     ap (slice p.s.now p.at) whole
-    ∙ take_there p.s.now p.at p.n count c.before.before.there.ensures
+    ∙ take_there p.s.now p.at p.n count c.before.before.there-count.ensures
 
 pub slice_spec : {M : Type 1} → statement M
 slice_spec =

@@ -6,11 +6,11 @@ use Rattle.octets.specs.Digits.{number_at}
 use Rattle.octets.proofs.{Numbers.word_read, two_at.Statement.statement}
 use Rattle.octets.proofs.two_at.Tie as tie
 
-read : (c : tie.After-number-at) → let p = c.before.before.args in
+read : (c : tie.After-number_at) → let p = c.before.before.args in
     (c.number_at.result ≡ number_at p.s.now p.at 2) × (c.number_at.result < 256 ^ 2)
 read c =
     let p = c.before.before.args in
-    word_read p.s.now p.at 2 (λ i. omega (arith, c.before.shared-slice-known.given i)) (omega arith)
+    word_read p.s.now p.at 2 (λ i. omega (arith, c.before.shared_slice_known-1.given i)) (omega arith)
     c.number_at.ensures
 
 pub two_at_spec : {M : Type 1} → statement M

@@ -13,23 +13,23 @@ use Rattle.pack.specs.{Places.byte_at, Places.key_end, declared.Kind.Kind}
 use Rattle.open_faults.proofs.key_fault.Statement.{statement}
 use Rattle.open_faults.proofs.key_fault.Tie as tie
 
-returns : tie.Need-returns
+returns : tie.Need-returns-then-file-at
 unfolding faults_from_key
-returns c = c.verdict-of.ensures ∙ verdict_at 0 _ (omega arith) (omega arith) (omega arith)
+returns c = c.verdict_of.ensures ∙ verdict_at 0 _ (omega arith) (omega arith) (omega arith)
 
-returns-2 : tie.Need-returns-2
+returns-2 : tie.Need-returns-then-count-own_count
 unfolding faults_from_key
-returns-2 c = c.verdict-of2.ensures ∙ verdict_at 1 _ (omega arith) (omega arith) (omega arith)
+returns-2 c = c.verdict_of-then-count-own_count.ensures ∙ verdict_at 1 _ (omega arith) (omega arith) (omega arith)
 
-returns-3 : tie.Need-returns-3
+returns-3 : tie.Need-returns-then-file-end
 unfolding faults_from_key
-returns-3 c = c.verdict-of3.ensures ∙ verdict_at 2 _ (omega arith) (omega arith) (omega arith)
+returns-3 c = c.verdict_of-then-file-end.ensures ∙ verdict_at 2 _ (omega arith) (omega arith) (omega arith)
 
-returns-4 : tie.Need-returns-4
+returns-4 : tie.Need-returns-then-file-at-gt-LAST_KEY
 unfolding faults_from_key
-returns-4 c = c.verdict-of4.ensures ∙ verdict_at 3 _ (omega arith) (omega arith) (omega arith)
+returns-4 c = c.verdict_of-then-file-at-gt-LAST_KEY.ensures ∙ verdict_at 3 _ (omega arith) (omega arith) (omega arith)
 
-returns-5 : tie.Need-returns-5
+returns-5 : tie.Need-returns
 unfolding faults_from_key
 returns-5 c =
     let kind = c.before in
@@ -38,8 +38,8 @@ returns-5 c =
     let cipher : Cipher = cipher_of (picked (byte_at f p.at)) in
     let end : ℕ = p.at + 1 + byte_at f p.at in
     let same : end ≡ key_end cipher p.at = omega arith in
-    c.sample-fault.ensures
-    ∙ ap (λ (k : Kind). verdict (faults_from_samples (cipher_of k) f end)) kind.kind-of.ensures
+    c.sample_fault.ensures
+    ∙ ap (λ (k : Kind). verdict (faults_from_samples (cipher_of k) f end)) kind.kind_of.ensures
     ∙ ap (λ (e : ℕ). verdict (faults_from_samples cipher f e)) same ∙ verdict_from 4 _ (omega arith)
 
 pub key_fault_spec : {M : Type 1} → statement M

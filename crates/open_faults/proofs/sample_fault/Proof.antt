@@ -11,33 +11,33 @@ use Rattle.pack.specs.{Ciphers.cipher_of, Faults.faults_from_loops, Faults.fault
 use Rattle.open_faults.proofs.sample_fault.Statement.{statement}
 use Rattle.open_faults.proofs.sample_fault.Tie as tie
 
-returns : tie.Need-returns
+returns : tie.Need-returns-then-file-at
 unfolding faults_from_samples
-returns c = c.verdict-of.ensures ∙ verdict_at 0 _ (omega arith) (omega arith) (omega arith)
+returns c = c.verdict_of.ensures ∙ verdict_at 0 _ (omega arith) (omega arith) (omega arith)
 
-returns-2 : tie.Need-returns-2
+returns-2 : tie.Need-returns-then-count-gt-MOST_SAMPLES
 unfolding faults_from_samples
 returns-2 c =
     let read = c.before.before in
     let p = read.before.before.before.before.args in
-    let count = read.four-at.ensures ∙ number_lent p.file.now p.at 4 in
-    c.verdict-of2.ensures ∙ verdict_at 1 _ (omega arith) (omega arith) (omega arith)
+    let count = read.four_at-count.ensures ∙ number_lent p.file.now p.at 4 in
+    c.verdict_of-then-count-gt-MOST_SAMPLES.ensures ∙ verdict_at 1 _ (omega arith) (omega arith) (omega arith)
 
-returns-3 : tie.Need-returns-3
+returns-3 : tie.Need-returns-then-file-end
 unfolding faults_from_samples
 returns-3 c =
     let read = c.before.before.before in
     let p = read.before.before.before.before.args in
-    let count = read.four-at.ensures ∙ number_lent p.file.now p.at 4 in
-    c.verdict-of3.ensures ∙ verdict_at 2 _ (omega arith) (omega arith) (omega arith)
+    let count = read.four_at-count.ensures ∙ number_lent p.file.now p.at 4 in
+    c.verdict_of-then-file-end.ensures ∙ verdict_at 2 _ (omega arith) (omega arith) (omega arith)
 
-returns-4 : tie.Need-returns-4
+returns-4 : tie.Need-returns
 unfolding faults_from_samples
 returns-4 c =
     let read = c.before.before.before in
     let p = read.before.before.before.before.args in
-    let count = read.four-at.ensures ∙ number_lent p.file.now p.at 4 in
-    c.loop-fault.ensures
+    let count = read.four_at-count.ensures ∙ number_lent p.file.now p.at 4 in
+    c.loop_fault.ensures
     ∙ ap (λ (n : ℕ). verdict (faults_from_loops (cipher_of p.kind) p.file.now (p.at + 4 + 2 * n) n)) count
     ∙ verdict_from 3 _ (omega arith)
 

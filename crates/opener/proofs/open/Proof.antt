@@ -25,41 +25,41 @@ later s =
 abbrev all : tie.Start → Rings
 all s = rings s.args.ring s.args.second s.args.third
 
-returns : tie.Need-returns
+returns : tie.Need-returns-then-no-ne-ACCEPTED
 unfolding opening_pack open_faults
 returns c =
     let told = c.before in
     let s = told.before.before in
-    passed_on (all s) s.args.file.now _ told.inspect.ensures (later s) _ s.args.output.now c.if1.true
+    passed_on (all s) s.args.file.now _ told.inspect-opened.ensures (later s) _ s.args.output.now c.if-no-ne-ACCEPTED.true
 
 -- what was told of a file that isn't refused
-told_of : (c : tie.Else1) → let s = c.before.before.before in
-    Known (all s) s.args.file.now c.before.inspect.result c.before.inspect.ensures c.if1.false
+told_of : (c : tie.Else-no-ne-ACCEPTED) → let s = c.before.before.before in
+    Known (all s) s.args.file.now c.before.inspect-opened.result c.before.inspect-opened.ensures c.if-no-ne-ACCEPTED.false
 told_of c =
     let s = c.before.before.before in
-    known (all s) s.args.file.now c.before.inspect.result c.before.inspect.ensures c.if1.false
+    known (all s) s.args.file.now c.before.inspect-opened.result c.before.inspect-opened.ensures c.if-no-ne-ACCEPTED.false
 
-returns-2 : tie.Need-returns-2
+returns-2 : tie.Need-returns-then-output-samples
 unfolding opening_pack open_faults
 returns-2 c =
     let e = c.before.before in
     let told = e.before in
     let s = told.before.before in
-    refused_later (all s) s.args.file.now _ told.inspect.ensures e.if1.false (later s) _
-    s.args.output.now no_room c.refused-opening.ensures (omega arith) (omega arith)
+    refused_later (all s) s.args.file.now _ told.inspect-opened.ensures e.if-no-ne-ACCEPTED.false (later s) _
+    s.args.output.now no_room c.refused_opening.ensures (omega arith) (omega arith)
     (refused_at 0 (later s) (omega (arith, (told_of e).samples)))
 
-body_long : (c : tie.After-slice) → let e = c.before.before.before in
-    length c.slice.result.now ≡ 2 * e.before.inspect.result.samples
+body_long : (c : tie.After-slice-body) → let e = c.before.before.before in
+    length c.slice-body.result.now ≡ 2 * e.before.inspect-opened.result.samples
 body_long c =
     let e = c.before.before.before in
-    let o : Opened = e.before.inspect.result in
+    let o : Opened = e.before.inspect-opened.result in
     let k = told_of e in
-    ap length c.slice.ensures
+    ap length c.slice-body.ensures
     ∙ length_slice e.before.before.before.args.file.now (o.loops_at - 1 - 2 * o.samples) (2 * o.samples)
     (omega (arith, k.loops, k.samples, k.there))
 
-returns-3 : tie.Need-returns-3
+returns-3 : tie.Need-returns
 unfolding opening_pack open_faults reading_on
 returns-3 c =
     let read = c.before in
@@ -71,15 +71,15 @@ returns-3 c =
     let k = told_of e in
     let lent = s.args.output.now in
     ap₂ (λ (a : Opened) (d : List ℤ). outcome a d)
-    (answered (all s) s.args.file.now _ told.inspect.ensures e.if1.false)
-    (ap (λ (o : Outcome Keystream ℤ). o.buffer) (read.read-samples.ensures
+    (answered (all s) s.args.file.now _ told.inspect-opened.ensures e.if-no-ne-ACCEPTED.false)
+    (ap (λ (o : Outcome Keystream ℤ). o.buffer) (read.read_samples.ensures
     ∙ sym (done_if _ _ _ (omega (arith, body_long body), tt)))
     ∙ ap (placed lent 0)
-    (deciphered (all s) s.args.file.now _ told.inspect.ensures e.if1.false
-    (told.inspect.result.loops_at - 1 - 2 * told.inspect.result.samples)
-    (2 * told.inspect.result.samples) begun.begin-from.ensures body.slice.ensures (omega (arith, k.value)) (omega (arith, k.loops, k.samples))
+    (deciphered (all s) s.args.file.now _ told.inspect-opened.ensures e.if-no-ne-ACCEPTED.false
+    (told.inspect-opened.result.loops_at - 1 - 2 * told.inspect-opened.result.samples)
+    (2 * told.inspect-opened.result.samples) begun.begin_from-begun.ensures body.slice-body.ensures (omega (arith, k.value)) (omega (arith, k.loops, k.samples))
     (omega (arith, k.samples))))
-    ∙ none_broken (all s) s.args.file.now _ told.inspect.ensures e.if1.false (later s) _ lent
+    ∙ none_broken (all s) s.args.file.now _ told.inspect-opened.ensures e.if-no-ne-ACCEPTED.false (later s) _ lent
     (omega (arith, k.samples), tt)
 
 pub open_spec : {M : Type 1} → statement M

@@ -10,14 +10,14 @@ use Rattle.pack.proofs.tag_length.Tie as tie
 abbrev size : Kind → ℕ
 size kind = tag_length (cipher_of kind)
 
-returns : tie.Need-returns
-returns c = omega (arith, ap size c.enum_told.given.1)
+returns : tie.Need-returns-in-Trivium
+returns c = omega (arith, ap size c.enum_told-1.given.1)
 
-returns-2 : tie.Need-returns-2
-returns-2 c = omega (arith, ap size c.enum-told2.given.1)
+returns-2 : tie.Need-returns-in-Enocoro
+returns-2 c = omega (arith, ap size c.enum_told-in-Enocoro-1.given.1)
 
-returns-3 : tie.Need-returns-3
-returns-3 c = omega (arith, ap size c.enum-told3.given.1)
+returns-3 : tie.Need-returns-in-Triad
+returns-3 c = omega (arith, ap size c.enum_told-in-Triad-1.given.1)
 
 pub tag_length_spec : {M : Type 1} → statement M
 tag_length_spec = tie.close (tie.spec (λ c. search rules) (λ c. search rules)

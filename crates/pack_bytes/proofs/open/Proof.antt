@@ -19,23 +19,23 @@ use Rattle.pack_bytes.proofs.open.Statement.{statement}
 use Rattle.pack_bytes.proofs.open.Tie as tie
 
 -- the rings are those that the bytes are
-module _ (t : tie.After-triad-ring) where
-  abbrev k : tie.After-keys-in
+module _ (t : tie.After-triad_ring-third) where
+  abbrev k : tie.After-keys_in-own
   k = t.before.before.before.before.before.before
 
   abbrev lent : tie.Start
   lent = k.before.before.before.before.before
 
   right : length lent.args.keys.now ≡ keys_bytes
-  right = k.before.if1.left
+  right = k.before.if-keys-ne-KEYS_BYTES.left
 
-  are : rings t.before.before.before.before.trivium-ring.result t.before.before.enocoro-ring.result
-      t.triad-ring.result
+  are : rings t.before.before.before.before.trivium_ring-first.result t.before.before.enocoro_ring-second.result
+      t.triad_ring-third.result
       ≡ rings_of lent.args.keys.now
   are =
-      all_rings lent.args.keys.now k.keys_in.ensures right
-      t.before.before.before.before.trivium-ring.ensures t.before.before.enocoro-ring.ensures
-      t.triad-ring.ensures
+      all_rings lent.args.keys.now k.keys_in-own.ensures right
+      t.before.before.before.before.trivium_ring-first.ensures t.before.before.enocoro_ring-second.ensures
+      t.triad_ring-third.ensures
 
   abbrev cipher : Cipher
   cipher = cipher_in lent.args.file.now
@@ -61,14 +61,14 @@ module _ (t : tie.After-triad-ring) where
   yes = accepted_opening cipher lent.args.file.now
 
 -- what is told to one who has the keys, and the opener's own outcome
-told : (s : tie.After-inspect) → let t = s.before.before in s.inspect.result.refusal ≡ first (keyed t)
+told : (s : tie.After-inspect-told) → let t = s.before.before in s.inspect-told.result.refusal ≡ first (keyed t)
 told s =
     let t = s.before.before in
-    ap (λ (o : Opened). o.refusal) (s.inspect.ensures ∙ ap (λ (r : Rings). inspecting_file r
+    ap (λ (o : Opened). o.refusal) (s.inspect-told.ensures ∙ ap (λ (r : Rings). inspecting_file r
     (lent t).args.file.now) (are t))
     ∙ inspect_refusal (cipher t) (ring t) (lent t).args.file.now
 
-own : (s : tie.After-open) → let t = s.before.before.before in
+own : (s : tie.After-open-opened) → let t = s.before.before.before in
     outcome s.«open».result s.«open».new.1.1.1.1.0
     ≡ opening_file (rings_of (lent t).args.keys.now) (lent t).args.file.now (lent t).args.samples.now
 own s =
@@ -76,48 +76,48 @@ own s =
     s.«open».ensures ∙ ap (λ (r : Rings). opening_file r (lent t).args.file.now (lent t).args.samples.now)
     (are t)
 
-returns : tie.Need-returns
+returns : tie.Need-returns-then-keys-ne-KEYS_BYTES
 unfolding pack_open
-returns c = left_at _ _ _ 0 tt c.if1.true
+returns c = left_at _ _ _ 0 tt c.if-keys-ne-KEYS_BYTES.true
 
-returns-2 : tie.Need-returns-2
+returns-2 : tie.Need-returns-then-fault-ne-ACCEPTED
 unfolding pack_open open_faults
 returns-2 c =
     let s = c.before in
     let t = s.before.before in
     ap (pack_opened (lent t).args.samples.now (lent t).args.answer.now) (omega arith)
     ∙ refused_by (lent t).args.keys.now (right t) (opens t) (numbers t) (yes t) _ (lent t).args.samples.now
-    (lent t).args.answer.now s.inspect.result.refusal c.if3.true
-    (first_here (keyed t) (room t) (keyed_numbered (cipher t) (ring t) (lent t).args.file.now) _ c.if3.true
+    (lent t).args.answer.now s.inspect-told.result.refusal c.if-fault-ne-ACCEPTED.true
+    (first_here (keyed t) (room t) (keyed_numbered (cipher t) (ring t) (lent t).args.file.now) _ c.if-fault-ne-ACCEPTED.true
     (told s))
 
-returns-3 : tie.Need-returns-3
+returns-3 : tie.Need-returns-then-answer-lt-NUMBERS
 unfolding pack_open open_faults
 returns-3 c =
     let s = c.before in
     let t = s.before.before in
     let later = first_later (keyed t) (room t) (keyed_numbered (cipher t) (ring t) (lent t).args.file.now)
-    (sym c.if3.false ∙ told s) in
+    (sym c.if-fault-ne-ACCEPTED.false ∙ told s) in
     no_answer (lent t).args.keys.now (right t) (opens t) (numbers t) (yes t) _ (lent t).args.samples.now
     (lent t).args.answer.now (omega arith)
     (subst (λ (n : ℕ). (n ≡ accepted) ⊎ (n ≡ no_room)) later (room_or_not _ _))
 
-returns-4 : tie.Need-returns-4
+returns-4 : tie.Need-returns-then-refusal-ne-ACCEPTED
 unfolding pack_open opening_pack
 returns-4 c =
     let s = c.before.before in
     let t = s.before.before.before in
     refused_so_lem (lent t).args.keys.now (right t) (opens t) (numbers t) (yes t) _ (lent t).args.samples.now
-    (lent t).args.answer.now refl _ (own s) c.if4.true
+    (lent t).args.answer.now refl _ (own s) c.if-refusal-ne-ACCEPTED.true
 
-returns-5 : tie.Need-returns-5
+returns-5 : tie.Need-returns
 unfolding pack_open opening_pack
 returns-5 c =
     let w = c.before.before in
     let s = w.before.before.before.before in
     let t = s.before.before.before in
     opened_so (lent t).args.keys.now (right t) (opens t) (numbers t) (yes t) _ (lent t).args.samples.now
-    (lent t).args.answer.now refl _ (own s) w.before.before.if4.false (omega arith)
+    (lent t).args.answer.now refl _ (own s) w.before.before.if-refusal-ne-ACCEPTED.false (omega arith)
     w.tell.ensures
 
 pub open_spec : {M : Type 1} → statement M

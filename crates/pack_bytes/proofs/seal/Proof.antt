@@ -19,43 +19,43 @@ use Rattle.pack_bytes.proofs.seal.Statement.{statement}
 use Rattle.pack_bytes.proofs.seal.Tie as tie
 
 -- the sealer's own outcome, under the cipher that the count picks and with the rings that the bytes are
-own : (s : tie.After-seal)
+own : (s : tie.After-seal-sealed)
     → let t = s.before.before.before.before.before.before.before.before.before.before.before in
     let p = t.before.before.before.before.before.before.before.args in
-    outcome s.seal.result s.seal.new.1.1.1.1.1.1.1.1.1.0
+    outcome s.seal-sealed.result s.seal-sealed.new.1.1.1.1.1.1.1.1.1.0
     ≡ sealing_file (picked p.cipher) (rings_of p.keys.now)
     (parts p.name.now p.key p.value.now p.samples.now p.loops.now)
-    p.output.now
+    p.output-1.now
 own s =
     let r = s.before.before.before in
     let k = r.before.before.before.before.before.before in
     let t = k.before.before in
     let p = t.before.before.before.before.before.before.before.args in
-    let are = all_rings p.keys.now k.keys_in.ensures t.before.if1.false
-    r.before.before.before.before.trivium-ring.ensures r.before.before.enocoro-ring.ensures
-    r.triad-ring.ensures in
-    let kind = s.before.before.kind-of.ensures in
-    s.seal.ensures
+    let are = all_rings p.keys.now k.keys_in-own.ensures t.before.if-keys-ne-KEYS_BYTES.false
+    r.before.before.before.before.trivium_ring-first.ensures r.before.before.enocoro_ring-second.ensures
+    r.triad_ring-third.ensures in
+    let kind = s.before.before.kind_of-kind.ensures in
+    s.seal-sealed.ensures
     ∙ (λ i. sealing_file (kind i) (are i)
-    (parts p.name.now p.key p.value.now p.samples.now p.loops.now) p.output.now)
+    (parts p.name.now p.key p.value.now p.samples.now p.loops.now) p.output-1.now)
 
-returns : tie.Need-returns
+returns : tie.Need-returns-then-keys-ne-KEYS_BYTES
 unfolding pack_seal
 returns c = left_at _ _ _ 0 tt (omega arith)
 
-returns-2 : tie.Need-returns-2
+returns-2 : tie.Need-returns-then-named-ne-ACCEPTED
 unfolding pack_seal
 returns-2 c =
     let s = c.before in
     let t = s.before.before.before in
     let p = t.before.before.before.before.before.before.args in
-    ap (wrote p.output.now p.written.now) (omega arith)
-    ∙ settled_left _ _ _ s.name-fault.result c.if3.true
+    ap (wrote p.output-1.now p.written.now) (omega arith)
+    ∙ settled_left _ _ _ s.name_fault-named.result c.if-named-ne-ACCEPTED.true
     (name_refuses p.cipher p.keys.now
     (parts p.name.now p.key p.value.now p.samples.now p.loops.now) _ _ (omega arith) _
-    c.if3.true s.name-fault.ensures)
+    c.if-named-ne-ACCEPTED.true s.name_fault-named.ensures)
 
-returns-3 : tie.Need-returns-3
+returns-3 : tie.Need-returns-then-cipher-own_count
 unfolding pack_seal
 returns-3 c =
     let s = c.before in
@@ -64,17 +64,17 @@ returns-3 c =
     settled_left _ _ _ bad_key_count (omega arith)
     (count_refuses p.cipher p.keys.now
     (parts p.name.now p.key p.value.now p.samples.now p.loops.now) _ _ (omega arith)
-    (omega (arith, s.name-fault.ensures))
-    (λ e. omega (arith, e, s.before.before.own-count.ensures)))
+    (omega (arith, s.name_fault-named.ensures))
+    (λ e. omega (arith, e, s.before.before.own_count.ensures)))
 
 -- the number that the sealer found is the one that is due
-found : (s : tie.After-seal) (n : ℕ)
+found : (s : tie.After-seal-sealed) (n : ℕ)
     → let t = s.before.before.before.before.before.before.before.before.before.before.before in
     let p = t.before.before.before.before.before.before.before.args in
     let sound = parts p.name.now p.key p.value.now p.samples.now p.loops.now in
     let size = length (file_of (picked p.cipher) (rings_of p.keys.now) sound) in
-    n ≡ s.seal.result.refusal
-    → n ≡ first (pack_seal_faults p.cipher p.keys.now sound size (length p.output.now))
+    n ≡ s.seal-sealed.result.refusal
+    → n ≡ first (pack_seal_faults p.cipher p.keys.now sound size (length p.output-1.now))
 unfolding sealing_pack
 found s n e =
     let t = s.before.before.before.before.before.before.before.before.before.before.before in
@@ -82,27 +82,27 @@ found s n e =
     e
     ∙ answer_number _ _ _ (λ o. o.answer.refusal) refl (λ m. refl) (own s)
     ∙ sealer_decides p.cipher p.keys.now
-    (parts p.name.now p.key p.value.now p.samples.now p.loops.now) _ (length p.output.now)
-    t.before.if1.false
+    (parts p.name.now p.key p.value.now p.samples.now p.loops.now) _ (length p.output-1.now)
+    t.before.if-keys-ne-KEYS_BYTES.false
     (omega
-    (arith, s.before.before.before.before.before.before.before.before.before.before.if2.false, t.own-count.ensures))
+    (arith, s.before.before.before.before.before.before.before.before.before.before.if-cipher-own_count.false, t.own_count.ensures))
 
-returns-4 : tie.Need-returns-4
+returns-4 : tie.Need-returns-then-refusal-ne-ACCEPTED
 unfolding pack_seal sealing_pack
 returns-4 c =
     let s = c.before.before.before in
     let t = s.before.before.before.before.before.before.before.before.before.before.before in
     let p = t.before.before.before.before.before.before.before.args in
-    let n : ℕ = s.seal.result.refusal in
+    let n : ℕ = s.seal-sealed.result.refusal in
     ap (λ (o : Outcome Sealed ℕ). wrote o.buffer p.written.now n)
-    (answer_left _ _ _ (λ o. o.answer.refusal) refl (λ m. refl) (own s) c.if4.true)
-    ∙ settled_left _ _ _ n c.if4.true (found s n refl)
+    (answer_left _ _ _ (λ o. o.answer.refusal) refl (λ m. refl) (own s) c.if-refusal-ne-ACCEPTED.true)
+    ∙ settled_left _ _ _ n c.if-refusal-ne-ACCEPTED.true (found s n refl)
 
-returns-5 : tie.Need-returns-5
+returns-5 : tie.Need-returns
 unfolding pack_seal sealing_pack
 returns-5 c =
     let s = c.before.before.before in
-    let z = c.if4.false in
+    let z = c.if-refusal-ne-ACCEPTED.false in
     ap (λ (o : Outcome Sealed ℕ). wrote o.buffer o.answer.length accepted)
     (answer_done _ _ _ (λ o. o.answer.refusal) refl (λ m. refl) (own s) z)
     ∙ settled_done _ _ _ (found s accepted (sym z))

@@ -19,11 +19,11 @@ returns c =
     let w = sliced.before.before.before.before in
     let start = w.before.before.before.before.before in
     let t : List ℕ = text_of start.args.input.now in
-    let blank : List ℕ = w.before.before.blank.result in
+    let blank : List ℕ = w.before.before.blank-lines.result in
     let room : length t ≤ length blank = omega
-    (arith, w.before.before.blank.ensures, text_fits start.args.input.now) in
-    let answer = ap (λ (o : Outcome ℕ ℕ). o.answer) w.write-text.ensures in
-    let lines = ap (λ (o : Outcome ℕ ℕ). o.buffer) w.write-text.ensures in
+    (arith, w.before.before.blank-lines.ensures, text_fits start.args.input.now) in
+    let answer = ap (λ (o : Outcome ℕ ℕ). o.answer) w.write_text-length.ensures in
+    let lines = ap (λ (o : Outcome ℕ ℕ). o.buffer) w.write_text-length.ensures in
     ap₂ (λ (n : ℕ) (d : List ℕ). outcome n d) answer
     (copied.copy.ensures
     ∙ ap (put start.args.text.now 0)

@@ -13,12 +13,12 @@ use Rattle.pack_text.proofs.inspected.Statement.{statement}
 use Rattle.pack_text.proofs.inspected.Tie as tie
 
 -- the keys are the input's first bytes
-keys_are : (k : tie.After-keys-in) → let input = k.before.before.before.args.input.now in
-    k.keys_in.result ≡ take keys_bytes input
+keys_are : (k : tie.After-keys_in-keys) → let input = k.before.before.before.args.input.now in
+    k.keys_in-keys.result ≡ take keys_bytes input
 keys_are k =
     let s = k.before in
     let input = s.before.before.args.input.now in
-    whole (take keys_bytes input) (k.keys_in.ensures ∙ ap (put (replicate keys_bytes 0) 0) s.slice.ensures)
+    whole (take keys_bytes input) (k.keys_in-keys.ensures ∙ ap (put (replicate keys_bytes 0) 0) s.slice.ensures)
     (length-take-le keys_bytes input (omega arith))
 
 -- and the file is all that stands behind them
@@ -36,9 +36,9 @@ returns c =
     c.inspect.ensures
     ∙ (λ i.
     inspecting_file
-    (rings ((v.trivium-ring.ensures ∙ ap (ring_at 10 0) keys) i)
-    ((e.enocoro-ring.ensures ∙ ap (ring_at 16 enocoro_place) keys) i)
-    ((t.triad-ring.ensures ∙ ap (ring_at 16 triad_place) keys) i))
+    (rings ((v.trivium_ring-first.ensures ∙ ap (ring_at 10 0) keys) i)
+    ((e.enocoro_ring-second.ensures ∙ ap (ring_at 16 enocoro_place) keys) i)
+    ((t.triad_ring-third.ensures ∙ ap (ring_at 16 triad_place) keys) i))
     (behind input i))
 
 pub inspected_spec : {M : Type 1} → statement M

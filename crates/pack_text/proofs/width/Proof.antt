@@ -8,32 +8,32 @@ use Rattle.pack_text.proofs.Decimals.{without_zero, all_stay, one_stays}
 use Rattle.pack_text.proofs.width.Statement.{statement}
 use Rattle.pack_text.proofs.width.Tie as tie
 
-abbrev invariant-loop : tie.invariant-loop
+abbrev invariant-loop : tie.invariant-loop-n
 invariant-loop value n₀ n = (1 ≤ n) × (n ≤ 20) × (trimmed (digits 10 n value) ≡ trimmed (digits 10 20 value))
 
-abbrev decreases-loop : tie.decreases-loop
+abbrev decreases-loop : tie.decreases-loop-n
 decreases-loop value n₀ n = n
 
-returns : tie.Need-returns invariant-loop decreases-loop
+returns : tie.Need-returns-then-digit_above-ne0 invariant-loop decreases-loop
 returns c =
     let above = c.before in
-    let l = above.before.before.loop in
+    let l = above.before.before.loop-n in
     let v : ℕ = above.before.before.before.args.value in
-    (omega arith, all_stay l.n v (omega arith) (λ z. c.if1.true (above.digit-above.ensures ∙ z)) ∙ l.invariant.2)
+    (omega arith, all_stay l.n v (omega arith) (λ z. c.if-digit_above-ne0.true (above.digit_above.ensures ∙ z)) ∙ l.invariant.2)
 
-loop-again : tie.Need-loop-preserved invariant-loop decreases-loop
+loop-again : tie.Need-loop-n-preserved invariant-loop decreases-loop
 loop-again c =
     let above = c.before in
-    let l = above.before.before.loop in
+    let l = above.before.before.loop-n in
     let v : ℕ = above.before.before.before.args.value in (
       omega arith,
       omega arith,
-      without_zero l.n v (omega arith) (sym above.digit-above.ensures ∙ c.if1.false) ∙ l.invariant.2,
+      without_zero l.n v (omega arith) (sym above.digit_above.ensures ∙ c.if-digit_above-ne0.false) ∙ l.invariant.2,
     )
 
-returns-2 : tie.Need-returns-2 invariant-loop decreases-loop
+returns-2 : tie.Need-returns invariant-loop decreases-loop
 returns-2 c =
-    let l = c.before.loop in
+    let l = c.before.loop-n in
     let v : ℕ = c.before.before.args.value in
     let last : l.n ≡ 1 = omega arith in
     (omega arith, one_stays l.n v last ∙ l.invariant.2)

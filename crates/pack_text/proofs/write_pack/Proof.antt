@@ -18,7 +18,7 @@ length_on text word x =
     omega (arith, length_line word (decimal x), length_decimal x)
 
 -- what was lent, and the text as far as each line
-module _ (c : tie.After-write-name) where
+module _ (c : tie.After-write_name-key_at) where
   abbrev start : tie.Start
   start = c.before.before.before.before
 
@@ -50,37 +50,37 @@ module _ (c : tie.After-write-name) where
   counted_short = omega (arith, length_on keyed samples_word start.args.samples, keyed_short)
 
 -- the way back from each line to the first
-abbrev before_key : tie.After-write-line → tie.After-write-name
+abbrev before_key : tie.After-write_line-samples_at → tie.After-write_name-key_at
 before_key c = c.before.before.before.before.before
 
-abbrev before_samples : tie.After-write-line2 → tie.After-write-line
+abbrev before_samples : tie.After-write_line-loops_at → tie.After-write_line-samples_at
 before_samples c = c.before.before.before.before.before
 
-after_key : (c : tie.After-write-line)
-    → outcome c.write-line.result c.write-line.new.0 ≡ writing (keyed (before_key c)) (d (before_key c))
+after_key : (c : tie.After-write_line-samples_at)
+    → outcome c.write_line-samples_at.result c.write_line-samples_at.new.0 ≡ writing (keyed (before_key c)) (d (before_key c))
 after_key c =
     let n = before_key c in
-    text_on (d n) (named n) _ (omega (arith, keyed_short n, given n)) n.write-name.ensures c.write-line.ensures
+    text_on (d n) (named n) _ (omega (arith, keyed_short n, given n)) n.write_name-key_at.ensures c.write_line-samples_at.ensures
 
-after_samples : (c : tie.After-write-line2) → let n = before_key (before_samples c) in
-    outcome c.write-line2.result c.write-line2.new.0 ≡ writing (counted n) (d n)
+after_samples : (c : tie.After-write_line-loops_at) → let n = before_key (before_samples c) in
+    outcome c.write_line-loops_at.result c.write_line-loops_at.new.0 ≡ writing (counted n) (d n)
 after_samples c =
     let n = before_key (before_samples c) in
     text_on (d n) (keyed n) _ (omega (arith, counted_short n, given n)) (after_key (before_samples c))
-    c.write-line2.ensures
+    c.write_line-loops_at.ensures
 
-write-line-requires : tie.Need-write-line-requires
+write-line-requires : tie.Need-write_line-samples_at-requires
 write-line-requires c κs =
     let n = c.before.before.before.before in
-    omega (arith, text_ends (d n) (named n) n.write-name.ensures, named_short n, given n)
+    omega (arith, text_ends (d n) (named n) n.write_name-key_at.ensures, named_short n, given n)
 
-write-line-requires-2 : tie.Need-write-line-requires-2
+write-line-requires-2 : tie.Need-write_line-samples_at-requires
 write-line-requires-2 c κs =
     let k = c.before.before.before.before in
     let n = before_key k in
     omega (arith, text_ends (d n) (keyed n) (after_key k), keyed_short n, given n)
 
-write-line-requires-3 : tie.Need-write-line-requires-3
+write-line-requires-3 : tie.Need-write_line-requires
 write-line-requires-3 c κs =
     let s = c.before.before.before.before in
     let n = before_key (before_samples s) in
@@ -93,7 +93,7 @@ returns c =
     let n = before_key (before_samples s) in
     text_on (d n) (counted n) (line loops_word (decimal (start n).args.loops))
     (omega (arith, length_on (counted n) loops_word (start n).args.loops, counted_short n, given n)) (after_samples s)
-    c.before.before.write-line3.ensures
+    c.before.before.write_line.ensures
 
 pub write_pack_spec : {M : Type 1} → statement M
 write_pack_spec =

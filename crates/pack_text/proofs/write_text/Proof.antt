@@ -17,7 +17,7 @@ use Rattle.pack_text.proofs.write_text.Tie as tie
 behind : (input : List ℕ) → slice input keys_bytes (length input - keys_bytes) ≡ pack_in input
 behind input = take_all (length input - keys_bytes) (drop keys_bytes input) (simp length-drop (omega arith))
 
-module _ (c : tie.After-inspected) where
+module _ (c : tie.After-inspected-opened) where
   abbrev start : tie.Start
   start = c.before.before.before.before
 
@@ -28,45 +28,45 @@ module _ (c : tie.After-inspected) where
   d = start.args.d.now
 
   long : keys_bytes ≤ length input
-  long = c.before.if1.false
+  long = c.before.if-input-lt-KEYS_BYTES.false
 
-  answered : c.inspected.result ≡ inspecting_file (keys_in input) (pack_in input)
-  answered = c.inspected.ensures
+  answered : c.inspected-opened.result ≡ inspecting_file (keys_in input) (pack_in input)
+  answered = c.inspected-opened.ensures
 
-returns : tie.Need-returns
+returns : tie.Need-returns-then-input-lt-KEYS_BYTES
 returns c =
     let w = c.before.before in
     let p = w.before.before.before.before.before.args in
-    w.write-refused.ensures
-    ∙ ap (λ (t : List ℕ). writing t p.d.now) (short_keys p.input.now w.before.before.if1.true)
+    w.write_refused.ensures
+    ∙ ap (λ (t : List ℕ). writing t p.d-1.now) (short_keys p.input.now w.before.before.if-input-lt-KEYS_BYTES.true)
 
-returns-2 : tie.Need-returns-2
+returns-2 : tie.Need-returns-then-refusal-ne-ACCEPTED
 returns-2 c =
     let w = c.before.before in
     let e = w.before.before in
     let s = e.before in
-    w.write-refused2.ensures
-    ∙ ap (λ (t : List ℕ). writing t (d s)) (told_refused (input s) (long s) (answered s) e.if2.true)
+    w.write_refused-then-refusal-ne-ACCEPTED.ensures
+    ∙ ap (λ (t : List ℕ). writing t (d s)) (told_refused (input s) (long s) (answered s) e.if-refusal-ne-ACCEPTED.true)
 
-write-pack-requires : tie.Need-write-pack-requires
+write-pack-requires : tie.Need-write_pack-requires
 write-pack-requires c κs =
     let e = c.before.before.before in
     let s = e.before in
-    let few = name_short (input s) (long s) (answered s) e.if2.false in
-    let part = ap length c.before.slice.ensures ∙ length-take s.inspected.result.name_length _ in
+    let few = name_short (input s) (long s) (answered s) e.if-refusal-ne-ACCEPTED.false in
+    let part = ap length c.before.slice-name.ensures ∙ length-take s.inspected-opened.result.name_length _ in
     (omega arith, omega arith)
 
-returns-3 : tie.Need-returns-3
+returns-3 : tie.Need-returns
 returns-3 c =
     let w = c.before.before in
     let e = w.before.before.before.before in
     let s = e.before in
-    let o : Opened = s.inspected.result in
-    w.write-pack.ensures
+    let o : Opened = s.inspected-opened.result in
+    w.write_pack.ensures
     ∙ ap (λ (t : List ℕ). writing t (d s))
-    (ap (λ (name : List ℕ). pack_lines name o.key o.samples o.loops) w.before.before.slice.ensures
+    (ap (λ (name : List ℕ). pack_lines name o.key o.samples o.loops) w.before.before.slice-name.ensures
     ∙ ap (λ (f : List ℕ). lines_of f o) (behind (input s))
-    ∙ told_accepted (input s) (long s) (answered s) e.if2.false)
+    ∙ told_accepted (input s) (long s) (answered s) e.if-refusal-ne-ACCEPTED.false)
 
 pub write_text_spec : {M : Type 1} → statement M
 write_text_spec =

@@ -28,7 +28,7 @@ other run (the_told.Holds session held) k = refl
 other run (the_told.TooLong session) k = refl
 
 -- the receiver with the numbers given
-abbrev with_numbers : Receiver → tie.Else1 → Receiver
+abbrev with_numbers : Receiver → tie.Else-not-in_rule → Receiver
 with_numbers o c = let p = c.before.before.args in taking o p.session p.total p.count
 
 -- what the frame's rules say of what was told
@@ -40,9 +40,9 @@ counted : (run : List ℕ) {t : Told} {session k n : ℕ} → t ≡ the_told.Blo
     → n ≡ length run
 counted run p e = cc
 
-said : (c : tie.At-match-branch) (o : Receiver) (run : List ℕ) → let p = c.before.before.before.args in
-    p.what ≡ told (heard_as run p.what)
-    → c.match.content ≡ first (frame_faults (with_numbers o c.before) p.sound (heard_as run p.what))
+said : (c : tie.Joined-what) (o : Receiver) (run : List ℕ) → let p = c.before.before.before.args in
+    p.what-1 ≡ told (heard_as run p.what-1)
+    → c.in-Opening.content ≡ first (frame_faults (with_numbers o c.before) p.sound (heard_as run p.what-1))
 unfolding Says
 said c o run e =
     let p = c.before.before.before.args in
@@ -55,15 +55,15 @@ said c o run e =
     (λ t.
     subst (Says r p.sound run _) (sym t.1.given.1)
     (t.4 ∙ t.3.ensures o p.count run (counted run t.1.given.1 e) ∙ rule_passes _ _ refl))
-    (λ t. t.1 ∙ refused_at 0 _ (other run p.what t.0.keys3)))
-    c.match.branch
+    (λ t. t.1 ∙ refused_at 0 _ (other run p.what-1 t.0.keys3)))
+    c.in-Opening.branch
 
 -- the frame's rules and the room's, behind the record's
-module _ (c : tie.At-match-branch) (o : Receiver) (run : List ℕ) where
+module _ (c : tie.Joined-what) (o : Receiver) (run : List ℕ) where
   abbrev frame : List Fault
   frame =
       let p = c.before.before.before.args in
-      frame_faults (with_numbers o c.before) p.sound (heard_as run p.what)
+      frame_faults (with_numbers o c.before) p.sound (heard_as run p.what-1)
 
   abbrev room : List Fault
   room = room_faults c.before.before.before.args.reply
@@ -71,36 +71,36 @@ module _ (c : tie.At-match-branch) (o : Receiver) (run : List ℕ) where
   numbers : T (numbered frame)
   numbers =
       let p = c.before.before.before.args in
-      frame_numbered (with_numbers o c.before) p.sound (heard_as run p.what)
+      frame_numbered (with_numbers o c.before) p.sound (heard_as run p.what-1)
 
   behind : let p = c.before.before.before.args in
       first (frame ++ room)
-      ≡ first (receive_faults (with_numbers o c.before) p.sound p.reply (heard_as run p.what))
-  behind = rule_passes _ _ (sym (c.before.before.in-rule.ensures o) ∙ not-false _ c.before.if1.false)
+      ≡ first (receive_faults (with_numbers o c.before) p.sound p.reply (heard_as run p.what-1))
+  behind = rule_passes _ _ (sym (c.before.before.in_rule.ensures o) ∙ not-false _ c.before.if-not-in_rule.false)
 
-returns : tie.Need-returns
-returns c o run e = refused_at 0 _ (sym (c.before.in-rule.ensures o) ∙ not-true _ c.if1.true)
+returns : tie.Need-returns-then-not-in_rule
+returns c o run e = refused_at 0 _ (sym (c.before.in_rule.ensures o) ∙ not-true _ c.if-not-in_rule.true)
 
-returns-2 : tie.Need-returns-2
+returns-2 : tie.Need-returns-then-content-ne-ACCEPTED
 returns-2 c o run e =
     let m = c.before in
-    let some : m.match.content ≢ accepted = omega arith in
+    let some : m.in-Opening.content ≢ accepted = omega arith in
     first_here (frame m o run) (room m o run) (numbers m o run) _ some (said m o run e) ∙ behind m o run
 
 -- with no rule of the frame broken, the room decides
-last : (c : tie.Else2) (o : Receiver) (run : List ℕ) → let p = c.before.before.before.before.args in
-    p.what ≡ told (heard_as run p.what)
+last : (c : tie.Else-content-ne-ACCEPTED) (o : Receiver) (run : List ℕ) → let p = c.before.before.before.before.args in
+    p.what-1 ≡ told (heard_as run p.what-1)
     → first (room_faults p.reply)
-    ≡ first (receive_faults (with_numbers o c.before.before) p.sound p.reply (heard_as run p.what))
+    ≡ first (receive_faults (with_numbers o c.before.before) p.sound p.reply (heard_as run p.what-1))
 last c o run e =
     let m = c.before in
-    let none : accepted ≡ m.match.content = omega arith in
+    let none : accepted ≡ m.in-Opening.content = omega arith in
     first_later (frame m o run) (room m o run) (numbers m o run) (none ∙ said m o run e) ∙ behind m o run
 
-returns-3 : tie.Need-returns-3
+returns-3 : tie.Need-returns-then-reply-lt-ANSWER_ROOM
 returns-3 c o run e = refused_at 0 _ (omega arith) ∙ last c.before o run e
 
-returns-4 : tie.Need-returns-4
+returns-4 : tie.Need-returns
 returns-4 c o run e = all_right _ (omega arith) ∙ last c.before o run e
 
 pub fault_spec : {M : Type 1} → statement M

@@ -14,7 +14,7 @@ unfolding receiver_in_rule
 returns c o =
     let p = c.before.args in
     let begun = some p.session || (eqb p.total 0 && eqb p.count 0) in
-    ap (λ (n : ℕ). leb p.total longest && (begun && leb p.count n)) c.block-count.ensures
+    ap (λ (n : ℕ). leb p.total longest && (begun && leb p.count n)) c.block_count.ensures
 
 pub in_rule_spec : {M : Type 1} → statement M
 in_rule_spec = tie.close (tie.spec (λ c κs. search rules) returns)

@@ -50,55 +50,55 @@ still : (r : Receiver) (run lent : List ℕ)
 unfolding Says
 still r run lent = (refl, refl, sym (short_holds r.session r.count))
 
-returns : tie.Need-returns
+returns : tie.Need-returns-then-named-session
 unfolding Says
 returns c = (
   omega arith,
   λ o run lent fits same.
       let t = c.before.before in
       let r = with_numbers o t.before.before in
-      so r (step r.session r.length r.count false 3 r.session 2) run lent t.what.given.1
-      (rw (eq-eqb t.what.given.0.0 r.session (omega arith))) (still r run lent),
+      so r (step r.session r.length r.count false 3 r.session 2) run lent t.what-1.given.1
+      (rw (eq-eqb t.what-1.given.0.0 r.session (omega arith))) (still r run lent),
 )
 
-returns-2 : tie.Need-returns-2
+returns-2 : tie.Need-returns-then-sound-long
 unfolding Says
 returns-2 c = (
   omega arith,
   λ o run lent fits same.
       let t = c.before.before.before in
       let r = with_numbers o t.before.before in
-      let got = t.what.given.0 in
-      so r (step r.session r.length r.count false 4 got.0 0) run lent t.what.given.1
+      let got = t.what-1.given.0 in
+      so r (step r.session r.length r.count false 4 got.0 0) run lent t.what-1.given.1
       (rw (ne_eqb got.0 r.session (omega arith), lt-ltb (length lent) got.1.0 (omega arith)))
       (refl, refl, sym (short_too_long got.0 r.count)),
 )
 
-returns-4 : tie.Need-returns-4
+returns-4 : tie.Need-returns-else-sound-long
 unfolding Says
 returns-4 c = (
   omega arith,
   λ o run lent fits same.
       let t = c.before.before.before in
       let r = with_numbers o t.before.before in
-      let got = t.what.given.0 in
-      so r (step got.0 got.1.0 0 false 3 got.0 2) run lent t.what.given.1
+      let got = t.what-1.given.0 in
+      so r (step got.0 got.1.0 0 false 3 got.0 2) run lent t.what-1.given.1
       (rw (ne_eqb got.0 r.session (omega arith), le-ltb (length lent) got.1.0 (omega arith)))
       (refl, refl, sym (short_holds got.0 0)),
 )
 
-returns-3 : tie.Need-returns-3
+returns-3 : tie.Need-returns-then-k-count
 unfolding Says
 returns-3 c = (
   omega arith,
   λ o run lent fits same.
       let t = c.before.before in
       let r = with_numbers o t.before.before in
-      so r (step r.session r.length r.count false 3 r.session 2) run lent t.what2.given.1
-      (rw (ne_eqb t.what2.given.0.1.0 r.count (λ e. omega arith))) (still r run lent),
+      so r (step r.session r.length r.count false 3 r.session 2) run lent t.what-in-Block-1.given.1
+      (rw (ne_eqb t.what-in-Block-1.given.0.1.0 r.count (λ e. omega arith))) (still r run lent),
 )
 
-returns-5 : tie.Need-returns-5
+returns-5 : tie.Need-returns-else-k-count
 unfolding Says
 returns-5 c = (
   omega arith,
@@ -106,14 +106,14 @@ returns-5 c = (
       let t = c.before.before in
       let s = t.before.before in
       let r = with_numbers o s in
-      let k = t.what2.given.0.1.0 in
+      let k = t.what-in-Block-1.given.0.1.0 in
       let turn : k ≡ r.count = omega arith in
       let right =
       subst (λ (w : Told). AllRight (content_faults (with_numbers s.requires.0 s) s.args.sound (heard_as run w)))
-      t.what2.given.1 (s.requires.1.1 run fits) in
+      t.what-in-Block-1.given.1 (s.requires.1.1 run fits) in
       let cover : ℕ → List ℕ = λ n. covered trivium r.key r.pair r.session n run in
       let long = length_covered trivium r.key r.pair r.session r.count run in
-      so r (step r.session r.length (k + 1) true 3 r.session 2) run lent t.what2.given.1
+      so r (step r.session r.length (k + 1) true 3 r.session 2) run lent t.what-in-Block-1.given.1
       (rw (eq-eqb k r.count turn)) (
         refl,
         (λ j. placed lent (place (turn j)) (cover (turn j)))
@@ -122,7 +122,7 @@ returns-5 c = (
       ),
 )
 
-add-count : tie.Need-overflow-add-t14
+add-count : tie.Need-overflow_add-result
 add-count c =
     let s = c.before.before.before.before in
     omega (arith, count_below (with_numbers s.requires.0 s) s.requires.1.0)
@@ -136,7 +136,7 @@ other r run lent (the_told.Block session number n) k = absurd (miss (0 ∷ 3 ∷
 other r run lent (the_told.Holds session held) k = refl
 other r run lent (the_told.TooLong session) k = refl
 
-returns-6 : tie.Need-returns-6
+returns-6 : tie.Need-returns-in_default
 unfolding Says
 returns-6 c = (
   omega arith,
@@ -144,7 +144,7 @@ returns-6 c = (
       let r = with_numbers o c.before in
       let what = c.before.args.what in
       so r (step r.session r.length r.count false 3 r.session 2) run lent {what = what} refl
-      (other r run lent what c.match.keys3) (still r run lent),
+      (other r run lent what c.in-Opening.keys3) (still r run lent),
 )
 
 pub on_frame_spec : {M : Type 1} → statement M

@@ -5,22 +5,22 @@ use Rattle.receiver_bytes.specs.Record.{receiver_size, receiver_in}
 use Rattle.receiver_bytes.proofs.receiver_in.Statement.{statement}
 use Rattle.receiver_bytes.proofs.receiver_in.Tie as tie
 
-returns : tie.Need-returns
+returns : tie.Need-returns-then-bytes-ne-RECEIVER_BYTES
 unfolding receiver_in
-returns c = rw (ne_eqb (length c.before.before.args.bytes.now) receiver_size c.if1.true)
+returns c = rw (ne_eqb (length c.before.before.args.bytes.now) receiver_size c.if-bytes-ne-RECEIVER_BYTES.true)
 
-returns-2 : tie.Need-returns-2
+returns-2 : tie.Need-returns
 unfolding receiver_in
 returns-2 c =
     let f = c.before.before.before in
-    let front = f.front-in.ensures in
-    rw (eq-eqb (length f.before.before.before.args.bytes.now) receiver_size f.before.if1.false)
+    let front = f.front_in-front.ensures in
+    rw (eq-eqb (length f.before.before.before.args.bytes.now) receiver_size f.before.if-bytes-ne-RECEIVER_BYTES.false)
     (λ i. record {
       key = (front i).key;
       pair = (front i).pair;
       session = (front i).session;
       length = (front i).length;
-      count = c.two_at.ensures i;
+      count = c.two_at-count.ensures i;
     })
 
 pub receiver_in_spec : {M : Type 1} → statement M

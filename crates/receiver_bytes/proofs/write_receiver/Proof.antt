@@ -16,17 +16,17 @@ use Rattle.receiver_bytes.proofs.{Record.length_receiver, write_receiver.Stateme
 use Rattle.receiver_bytes.proofs.write_receiver.Tie as tie
 
 -- the lengths of the two arrays
-sizes : (s : tie.Start) → (length s.args.receiver.key ≡ key_bytes) × (length s.args.receiver.pair ≡ pair_bytes)
+sizes : (s : tie.Start) → (length s.args.receiver.key-1 ≡ key_bytes) × (length s.args.receiver.pair-1 ≡ pair_bytes)
 sizes s = (search rules, search rules)
 
-returns : tie.Need-returns
+returns : tie.Need-returns-then-d-lt-RECEIVER_BYTES
 returns c =
     let start = c.before.before in
     let r = start.args.receiver in
     put_none start.args.d.now 0 (receiver_bytes r)
     (rw (length_receiver r (sizes start).0 (sizes start).1) (omega arith))
 
-returns-2 : tie.Need-returns-2
+returns-2 : tie.Need-returns
 unfolding receiver_bytes
 returns-2 c =
     let one = c.before.before in
@@ -37,12 +37,12 @@ returns-2 c =
     let f : List ℕ = front_bytes (front_of r) in
     let rest : List ℕ = row count_widths (r.count ∷ []) in
     let long = length_front (front_of r) (sizes start).0 (sizes start).1 in
-    let after : List ℕ = front.write-front.new.0 in
-    let same : length after ≡ length d = ap length front.write-front.ensures ∙ length_put d 0 f in
-    let last : one.write-number.new.0 ≡ put after 24 (digits 256 2 r.count) = one.write-number.ensures in
+    let after : List ℕ = front.write_front.new.0 in
+    let same : length after ≡ length d = ap length front.write_front.ensures ∙ length_put d 0 f in
+    let last : one.write_number.new.0 ≡ put after 24 (digits 256 2 r.count) = one.write_number.ensures in
     last
     ∙ row_written after count_widths (r.count ∷ []) 24 (omega arith)
-    ∙ goes_on d 0 f rest (front.write-front.ensures ∙ put_placed d 0 f (omega arith))
+    ∙ goes_on d 0 f rest (front.write_front.ensures ∙ put_placed d 0 f (omega arith))
     (omega arith) (omega (arith, length_row count_widths (r.count ∷ [])))
     ∙ sym (put_placed d 0 (receiver_bytes r) (rw (length_receiver r (sizes start).0 (sizes start).1) (omega arith)))
 

@@ -11,24 +11,24 @@ use Rattle.record_bytes.proofs.Sixes.{six_read}
 use Rattle.record_bytes.proofs.six_words_in.Statement.{statement}
 use Rattle.record_bytes.proofs.six_words_in.Tie as tie
 
-returns : tie.Need-returns
+returns : tie.Need-returns-then-bytes-lt-SIX_WORDS_BYTES
 unfolding six_in
 returns c = left_at _ _ _ 0 tt (omega arith)
 
-returns-2 : tie.Need-returns-2
+returns-2 : tie.Need-returns
 unfolding numbers_at
 returns-2 c =
     let known = c.before.before.before.before.before.before.before in
     let bytes = known.before.args.bytes.now in
     let read : (at : ℕ) → word (number_at bytes at 8) ≡ number_at bytes at 8 =
-    λ at. number_read bytes at 8 (λ i. omega (arith, known.shared-slice-known.given i)) (omega arith) in
+    λ at. number_read bytes at 8 (λ i. omega (arith, known.shared_slice_known-1.given i)) (omega arith) in
     ◌∙◌ {b = six_of (numbers_at six_widths bytes 0)} (λ i. record {
-      a1 = (c.before.before.before.before.before.number_at.ensures ∙ read 0) i;
-      a0 = (c.before.before.before.before.number-at2.ensures ∙ read 8) i;
-      b1 = (c.before.before.before.number-at3.ensures ∙ read 16) i;
-      b0 = (c.before.before.number-at4.ensures ∙ read 24) i;
-      c1 = (c.before.number-at5.ensures ∙ read 32) i;
-      c0 = (c.number-at6.ensures ∙ read 40) i;
+      a1 = (c.before.before.before.before.before.number_at-a1.ensures ∙ read 0) i;
+      a0 = (c.before.before.before.before.number_at-a0.ensures ∙ read 8) i;
+      b1 = (c.before.before.before.number_at-b1.ensures ∙ read 16) i;
+      b0 = (c.before.before.number_at-b0.ensures ∙ read 24) i;
+      c1 = (c.before.number_at-c1.ensures ∙ read 32) i;
+      c0 = (c.number_at-c0.ensures ∙ read 40) i;
     })
     (six_read bytes (omega arith))
 

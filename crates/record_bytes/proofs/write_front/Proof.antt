@@ -14,18 +14,18 @@ use Rattle.record_bytes.proofs.{Fronts.length_front, write_front.Statement.state
 use Rattle.record_bytes.proofs.write_front.Tie as tie
 
 -- the lengths of the two arrays
-sizes : (s : tie.Start) → (length s.args.front.key ≡ key_bytes) × (length s.args.front.pair ≡ pair_bytes)
+sizes : (s : tie.Start) → (length s.args.front.key-1 ≡ key_bytes) × (length s.args.front.pair-1 ≡ pair_bytes)
 sizes s = (search rules, search rules)
 
-returns : tie.Need-returns
+returns : tie.Need-returns-then-d-lt-FRONT_BYTES
 returns c =
     let start = c.before.before.before.before in
     let f = start.args.front in
-    let key : length f.key ≡ key_bytes = (sizes start).0 in
-    let pair : length f.pair ≡ pair_bytes = (sizes start).1 in
+    let key : length f.key-1 ≡ key_bytes = (sizes start).0 in
+    let pair : length f.pair-1 ≡ pair_bytes = (sizes start).1 in
     put_none start.args.d.now 0 (front_bytes f) (rw (length_front f key pair) (omega arith))
 
-returns-2 : tie.Need-returns-2
+returns-2 : tie.Need-returns
 unfolding front_bytes
 returns-2 c =
     let four = c.before.before in
@@ -35,18 +35,18 @@ returns-2 c =
     let start = one.before.before.before.before.before.before.before in
     let d : List ℕ = start.args.d.now in
     let f = start.args.front in
-    let key : length f.key ≡ key_bytes = (sizes start).0 in
-    let pair : length f.pair ≡ pair_bytes = (sizes start).1 in
-    let names : two.copy2.new.0 ≡ placed d 0 (f.key ++ f.pair) =
-    two.copy2.ensures
-    ∙ goes_on d 0 f.key f.pair (one.copy.ensures ∙ put_placed d 0 f.key (omega arith)) (omega arith)
+    let key : length f.key-1 ≡ key_bytes = (sizes start).0 in
+    let pair : length f.pair-1 ≡ pair_bytes = (sizes start).1 in
+    let names : two.copy-2.new.0 ≡ placed d 0 (f.key-1 ++ f.pair-1) =
+    two.copy-2.ensures
+    ∙ goes_on d 0 f.key-1 f.pair-1 (one.copy.ensures ∙ put_placed d 0 f.key-1 (omega arith)) (omega arith)
     (omega arith) in
-    let room : length two.copy2.new.0 ≡ length d =
-    ap length names ∙ length_placed d 0 (f.key ++ f.pair) (rw length-append (omega arith)) in
-    four.write-number2.ensures
-    ∙ ap (λ (l : List ℕ). put l 20 (digits 256 4 f.length)) three.write-number.ensures
-    ∙ row_written two.copy2.new.0 front_widths (front_numbers f) 16 (omega arith)
-    ∙ goes_on d 0 (f.key ++ f.pair) (row front_widths (front_numbers f)) names (rw length-append (omega arith))
+    let room : length two.copy-2.new.0 ≡ length d =
+    ap length names ∙ length_placed d 0 (f.key-1 ++ f.pair-1) (rw length-append (omega arith)) in
+    four.write_number-2.ensures
+    ∙ ap (λ (l : List ℕ). put l 20 (digits 256 4 f.length)) three.write_number.ensures
+    ∙ row_written two.copy-2.new.0 front_widths (front_numbers f) 16 (omega arith)
+    ∙ goes_on d 0 (f.key-1 ++ f.pair-1) (row front_widths (front_numbers f)) names (rw length-append (omega arith))
     (omega (arith, length_row front_widths (front_numbers f)))
     ∙ sym (put_placed d 0 (front_bytes f) (rw (length_front f key pair) (omega arith)))
 

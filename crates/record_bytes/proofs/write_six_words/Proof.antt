@@ -13,14 +13,14 @@ use Rattle.record_bytes.proofs.write_six_words.Tie as tie
 abbrev then : ℕ → ℕ → List ℕ → List ℕ
 then at x d = put d at (digits 256 8 x)
 
-returns : tie.Need-returns
+returns : tie.Need-returns-then-d-lt-SIX_WORDS_BYTES
 unfolding six_bytes
 returns c =
     let p = c.before.before.args in
-    put_none p.d.now 0 (six_bytes p.words)
+    put_none p.d-1.now 0 (six_bytes p.words)
     (rw (length_row six_widths (six_numbers p.words)) (omega arith))
 
-returns-2 : tie.Need-returns-2
+returns-2 : tie.Need-returns
 unfolding six_bytes
 returns-2 c =
     let six = c.before.before in
@@ -31,13 +31,13 @@ returns-2 c =
     let one = two.before.before.before.before in
     let p = one.before.before.before.before.args in
     let r = p.words in
-    six.write-word6.ensures
-    ∙ ap (then 40 r.c0) (five.write-word5.ensures
-    ∙ ap (then 32 r.c1) (four.write-word4.ensures
-    ∙ ap (then 24 r.b0) (three.write-word3.ensures
-    ∙ ap (then 16 r.b1) (two.write-word2.ensures
+    six.write_word-6.ensures
+    ∙ ap (then 40 r.c0) (five.write_word-5.ensures
+    ∙ ap (then 32 r.c1) (four.write_word-4.ensures
+    ∙ ap (then 24 r.b0) (three.write_word-3.ensures
+    ∙ ap (then 16 r.b1) (two.write_word-2.ensures
     ∙ ap (then 8 r.a0) one.write_word.ensures))))
-    ∙ row_written p.d.now six_widths (six_numbers r) 0 (omega arith)
+    ∙ row_written p.d-1.now six_widths (six_numbers r) 0 (omega arith)
 
 pub write_six_words_spec : {M : Type 1} → statement M
 write_six_words_spec =

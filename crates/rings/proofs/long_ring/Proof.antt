@@ -8,10 +8,10 @@ use Rattle.rings.proofs.long_ring.Tie as tie
 returns : tie.Need-returns
 unfolding ring_at
 returns c =
-    λ i. c.before.before.before.long-key.ensures i
-    ∷ c.before.before.long-key2.ensures i
-    ∷ c.before.long-key3.ensures i
-    ∷ c.long-key4.ensures i
+    λ i. c.before.before.before.long_key.ensures i
+    ∷ c.before.before.long_key-2.ensures i
+    ∷ c.before.long_key-3.ensures i
+    ∷ c.long_key-4.ensures i
     ∷ []
 
 pub long_ring_spec : {M : Type 1} → statement M

@@ -8,10 +8,10 @@ use Rattle.rings.proofs.trivium_ring.Tie as tie
 returns : tie.Need-returns
 unfolding ring_at
 returns c =
-    λ i. c.before.before.before.before.before.before.short-key.ensures i
-    ∷ c.before.before.before.before.short-key2.ensures i
-    ∷ c.before.before.short-key3.ensures i
-    ∷ c.short-key4.ensures i
+    λ i. c.before.before.before.before.before.before.short_key.ensures i
+    ∷ c.before.before.before.before.short_key-2.ensures i
+    ∷ c.before.before.short_key-3.ensures i
+    ∷ c.short_key-4.ensures i
     ∷ []
 
 pub trivium_ring_spec : {M : Type 1} → statement M

@@ -13,10 +13,10 @@ use Rattle.sample_runs.specs.Unturned.{low_first, unturned, turned, turned_front
 use Rattle.sample_runs.proofs.{Samples.turned_samples, read_words.Statement.statement}
 use Rattle.sample_runs.proofs.read_words.Tie as tie
 
-returns : tie.Need-returns
+returns : tie.Need-returns-then-output-n
 returns c =
     let p = c.before.before.args in
-    put_none p.output.now 0 (words_of p.bytes.now) (rw (length_twos word_of p.bytes.now) (omega arith))
+    put_none p.output-1.now 0 (words_of p.bytes.now) (rw (length_twos word_of p.bytes.now) (omega arith))
 
 -- all of the words, taken to the front and turned there
 turned_there : (output : List ℤ) (bytes : List ℕ) (n : ℕ) {taken last : List ℤ} {m : ℕ}
@@ -37,14 +37,14 @@ turned_there output bytes n {taken} e f all long room below =
     ∙ put_over output 0 run (map turned run) (omega arith) (omega arith)
     ∙ ap (put output 0) (turned_samples bytes below)
 
-returns-2 : tie.Need-returns-2
+returns-2 : tie.Need-returns
 returns-2 c =
     let turn = c.before in
     let taken = turn.before.before.before in
     let known = taken.before.before.before in
     let p = known.before.args in
-    turned_there p.output.now p.bytes.now (length p.bytes.now / 2) taken.take_words.ensures
-    turn.turn.ensures (omega arith) (omega arith) (omega arith) (λ i. omega (arith, known.shared-slice-known.given i))
+    turned_there p.output-1.now p.bytes.now (length p.bytes.now / 2) taken.take_words.ensures
+    turn.turn.ensures (omega arith) (omega arith) (omega arith) (λ i. omega (arith, known.shared_slice_known-1.given i))
 
 pub read_words_spec : {M : Type 1} → statement M
 read_words_spec = tie.close (tie.spec returns (λ c κs. search rules) (λ c κs. search rules) (λ c. search rules) returns-2)

@@ -15,14 +15,14 @@ use Rattle.sample_runs.specs.Unturned.{low_first, unturned}
 use Rattle.sample_runs.proofs.take_words.Statement.{statement}
 use Rattle.sample_runs.proofs.take_words.Tie as tie
 
-abbrev invariant-loop : tie.invariant-loop
+abbrev invariant-loop : tie.invariant-loop-i
 invariant-loop bytes output₀ words i₀ output i =
     (i ≤ words) × (length output ≡ length output₀) × (output ≡ paste output₀ 0 (unturned bytes) i)
 
-abbrev decreases-loop : tie.decreases-loop
+abbrev decreases-loop : tie.decreases-loop-i
 decreases-loop bytes output₀ words i₀ output i = words - i
 
-loop-holds : tie.Need-loop-init invariant-loop decreases-loop
+loop-holds : tie.Need-loop-i-init invariant-loop decreases-loop
 loop-holds c = let p = c.before.args in (omega arith, refl, paste-zero p.output.now 0 (unturned p.bytes.now))
 
 -- the number that the code makes of two bytes
@@ -30,9 +30,9 @@ made : (first second : ℕ) {n : ℕ} → n ≡ second * 256 + first → signed 
 unfolding number_after
 made first second e = ap signed (omega arith)
 
-loop-again : tie.Need-loop-preserved invariant-loop decreases-loop
+loop-again : tie.Need-loop-i-preserved invariant-loop decreases-loop
 loop-again c =
-    let l = c.before.before.before.before.loop in
+    let l = c.before.before.before.before.loop-i in
     let p = c.before.before.before.before.before.before.args in
     let z : ℤ = to_z w16 (of_z w16 c.signed.result) in
     let run : List ℤ = unturned p.bytes.now in
@@ -49,7 +49,7 @@ loop-again c =
 
 returns : tie.Need-returns invariant-loop decreases-loop
 returns c =
-    let l = c.before.loop in
+    let l = c.before.loop-i in
     let p = c.before.before.before.args in
     let all : l.i ≡ length (unturned p.bytes.now) = omega (arith, length_twos low_first p.bytes.now) in
     l.invariant.2 ∙ paste_all p.output.now 0 (unturned p.bytes.now) l.i all (omega arith)
@@ -58,14 +58,14 @@ pub take_words_spec : {M : Type 1} → statement M
 take_words_spec =
     tie.close
     (tie.spec invariant-loop decreases-loop loop-holds (λ c. omega arith) (λ c. omega arith)
-    (λ c. omega (arith, c.shared-slice-known2.given (2 * c.before.before.loop.i)))
+    (λ c. omega (arith, c.shared_slice_known-in-loop-i-1.given (2 * c.before.before.loop-i.i)))
     (λ c. omega arith) (λ c. omega arith) (λ c. omega arith)
-    (λ c. omega (arith, c.shared-slice-known3.given (2 * c.before.before.before.loop.i + 1)))
-    (λ c. omega (arith, c.shared-slice-known3.given (2 * c.before.before.before.loop.i + 1)))
+    (λ c. omega (arith, c.shared_slice_known-in-loop-i-2-1.given (2 * c.before.before.before.loop-i.i + 1)))
+    (λ c. omega (arith, c.shared_slice_known-in-loop-i-2-1.given (2 * c.before.before.before.loop-i.i + 1)))
     (λ c. omega (
       arith,
-      c.shared-slice-known3.given (2 * c.before.before.before.loop.i),
-      c.shared-slice-known3.given (2 * c.before.before.before.loop.i + 1),
+      c.shared_slice_known-in-loop-i-2-1.given (2 * c.before.before.before.loop-i.i),
+      c.shared_slice_known-in-loop-i-2-1.given (2 * c.before.before.before.loop-i.i + 1),
     ))
     (λ c κs. search rules) (λ c. omega arith) (λ c. omega arith)
-    (λ c. omega arith) (λ c. omega arith) loop-again (λ c. c.before.loop.invariant.1) returns)
+    (λ c. omega arith) (λ c. omega arith) loop-again (λ c. c.before.loop-i.invariant.1) returns)

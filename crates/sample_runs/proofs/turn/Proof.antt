@@ -19,11 +19,11 @@ use Rattle.sample_runs.proofs.turn.Tie as tie
 abbrev front : List ℤ → ℕ → List ℤ
 front output count = map turned (take count output)
 
-abbrev invariant-loop : tie.invariant-loop
+abbrev invariant-loop : tie.invariant-loop-i
 invariant-loop output₀ count i₀ output i =
     (i ≤ count) × (length output ≡ length output₀) × (output ≡ paste output₀ 0 (front output₀ count) i)
 
-abbrev decreases-loop : tie.decreases-loop
+abbrev decreases-loop : tie.decreases-loop-i
 decreases-loop output₀ count i₀ output i = count - i
 
 length_front : (output : List ℤ) (count : ℕ) → count ≤ length output → length (front output count) ≡ count
@@ -40,14 +40,14 @@ made : (y : ℤ) (n : ℕ) {z : ℤ} {first second : ℕ} → z ≡ word_of firs
     → n ≡ unsigned y → z ≡ turned y
 made y n e f g h = e ∙ ap₂ word_of f g ∙ ap (λ (m : ℕ). word_of (m % 256) (m / 256)) h
 
-loop-holds : tie.Need-loop-init invariant-loop decreases-loop
+loop-holds : tie.Need-loop-i-init invariant-loop decreases-loop
 loop-holds c =
     let p = c.args in (omega arith, refl, paste-zero p.output.now 0 (front p.output.now p.count))
 
-loop-again : tie.Need-loop-preserved invariant-loop decreases-loop
+loop-again : tie.Need-loop-i-preserved invariant-loop decreases-loop
 loop-again c =
     let read = c.before.before in
-    let l = read.before.before.loop in
+    let l = read.before.before.loop-i in
     let p = read.before.before.before.args in
     let d : List ℤ = p.output.now in
     let run : List ℤ = front d p.count in
@@ -56,11 +56,11 @@ loop-again c =
     let ahead : z ≡ get_or d l.i (pos 0) =
     ap (λ (o : List ℤ). get_or o l.i (pos 0)) l.invariant.2 ∙ paste_ahead d run l.i (pos 0) (omega arith)
     (omega arith) in
-    let bits : c.before.bits.result ≡ unsigned (get_or d l.i (pos 0)) =
-    c.before.bits.ensures ∙ ap unsigned (to_z-of_z w16 z (sfits_of read.bits-arg.given) ∙ ahead) in
+    let bits : c.before.bits-bits.result ≡ unsigned (get_or d l.i (pos 0)) =
+    c.before.bits-bits.ensures ∙ ap unsigned (to_z-of_z w16 z (sfits_of read.bits-arg-1.given) ∙ ahead) in
     let got : to_z w16 (of_z w16 c.word.result) ≡ get_or run l.i (turned (pos 0)) =
     to_z-of_z w16 c.word.result (sfits_of c.word.type-inv)
-    ∙ made (get_or d l.i (pos 0)) c.before.bits.result c.word.ensures (omega arith) (omega arith) bits
+    ∙ made (get_or d l.i (pos 0)) c.before.bits-bits.result c.word.ensures (omega arith) (omega arith) bits
     ∙ sym (front_at d p.count l.i (omega arith)) in (
       omega arith,
       length-set l.output l.i (to_z w16 (of_z w16 c.word.result)) ∙ l.invariant.1,
@@ -71,7 +71,7 @@ loop-again c =
 returns : tie.Need-returns invariant-loop decreases-loop
 unfolding turned_front
 returns c =
-    let l = c.before.loop in
+    let l = c.before.loop-i in
     let p = c.before.before.args in
     let long = length_front p.output.now p.count (omega arith) in
     l.invariant.2 ∙ paste_all p.output.now 0 (front p.output.now p.count) l.i (omega arith) (omega arith)
@@ -81,4 +81,4 @@ turn_spec =
     tie.close
     (tie.spec invariant-loop decreases-loop loop-holds (λ c. search rules) (λ c. omega arith)
     (λ c κs. search rules) (λ c. search rules) (λ c. search rules) (λ c κs. search rules) (λ c. search rules)
-    (λ c. omega arith) (λ c. search rules) (λ c. omega arith) loop-again (λ c. c.before.loop.invariant.1) returns)
+    (λ c. omega arith) (λ c. search rules) (λ c. omega arith) loop-again (λ c. c.before.loop-i.invariant.1) returns)

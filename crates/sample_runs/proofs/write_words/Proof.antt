@@ -12,11 +12,11 @@ use Rattle.samples.proofs.Words.{byte_upper, byte_lower, length_bytes}
 use Rattle.sample_runs.proofs.write_words.Statement.{statement}
 use Rattle.sample_runs.proofs.write_words.Tie as tie
 
-abbrev invariant-loop : tie.invariant-loop
+abbrev invariant-loop : tie.invariant-loop-i
 invariant-loop samples output₀ n i₀ output i =
     (i ≤ n) × (length output ≡ length output₀) × (output ≡ paste output₀ 0 (bytes_of_all samples) (2 * i))
 
-abbrev decreases-loop : tie.decreases-loop
+abbrev decreases-loop : tie.decreases-loop-i
 decreases-loop samples output₀ n i₀ output i = n - i
 
 -- one sample more, its upper byte first
@@ -37,12 +37,12 @@ write_more samples output i bits h room e small =
     ∙ paste_front output run (2 * i + 1) 0 (omega arith) (omega arith)
     ∙ ap (paste output 0 run) next
 
-returns : tie.Need-returns invariant-loop decreases-loop
+returns : tie.Need-returns-then-output-n invariant-loop decreases-loop
 returns c =
     let p = c.before.before.args in
     put_none p.output.now 0 (bytes_of_all p.sound.now) (rw (length_bytes p.sound.now) (omega arith))
 
-loop-holds : tie.Need-loop-init invariant-loop decreases-loop
+loop-holds : tie.Need-loop-i-init invariant-loop decreases-loop
 loop-holds c = (
   omega arith,
   refl,
@@ -50,23 +50,23 @@ loop-holds c = (
       (bytes_of_all c.before.before.args.sound.now),
 )
 
-loop-again : tie.Need-loop-preserved invariant-loop decreases-loop
+loop-again : tie.Need-loop-i-preserved invariant-loop decreases-loop
 loop-again c =
-    let l = c.before.before.before.loop in
+    let l = c.before.before.before.loop-i in
     let p = c.before.before.before.before.before.before.args in
-    let x : ℕ = c.bits.result in
-    let seen = to_z-of_z w16 (get_or p.sound.now l.i (pos 0)) (sfits_of c.before.bits-arg.given) in (
+    let x : ℕ = c.bits-number.result in
+    let seen = to_z-of_z w16 (get_or p.sound.now l.i (pos 0)) (sfits_of c.before.bits-arg-1.given) in (
       omega arith,
       length-set (set l.output (2 * l.i) (x / 256)) (2 * l.i + 1) (x % 256)
           ∙ length-set l.output (2 * l.i) (x / 256) ∙ l.invariant.1,
       ap (λ (d : List ℕ). set (set d (2 * l.i) (x / 256)) (2 * l.i + 1) (x % 256)) l.invariant.2
           ∙ write_more p.sound.now p.output.now l.i x (omega arith) (omega arith)
-          (c.bits.ensures ∙ ap unsigned seen) (omega arith),
+          (c.bits-number.ensures ∙ ap unsigned seen) (omega arith),
     )
 
-returns-2 : tie.Need-returns-2 invariant-loop decreases-loop
+returns-2 : tie.Need-returns invariant-loop decreases-loop
 returns-2 c =
-    let l = c.before.loop in
+    let l = c.before.loop-i in
     let p = c.before.before.before.before.args in
     let all : 2 * l.i ≡ length (bytes_of_all p.sound.now) = omega (arith, length_bytes p.sound.now) in
     l.invariant.2 ∙ paste_all p.output.now 0 (bytes_of_all p.sound.now) (2 * l.i) all (omega arith)
@@ -77,4 +77,4 @@ write_words_spec =
     (tie.spec invariant-loop decreases-loop returns loop-holds (λ c. omega arith) (λ c. omega arith) (λ c κs. search rules)
     (λ c. omega arith) (λ c. omega arith) (λ c. omega arith) (λ c. omega arith) (λ c. omega arith) (λ c. omega arith)
     (λ c. simp length-set (omega arith)) (λ c. omega arith) (λ c. omega arith) loop-again
-    (λ c. c.before.loop.invariant.1) returns-2)
+    (λ c. c.before.loop-i.invariant.1) returns-2)

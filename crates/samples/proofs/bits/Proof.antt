@@ -44,38 +44,38 @@ lower z f u =
     ∙ ap (λ (y : ℤ). to_z w16 (of_z w16 y)) u.less
     ∙ seen (pos u.by) (sfits_of u.small)
 
-cast-result : tie.Need-overflow-cast-result
+cast-result : tie.Need-overflow_cast-result
 cast-result c =
     let z = c.before.args.sample in
     let f = c.before.ranges.sample in
-    rw (seen z f) (kept z f (rw (seen z f) at c.if1.true)).casts
+    rw (seen z f) (kept z f (rw (seen z f) at c.if-sample-ge0.true)).casts
 
-returns : tie.Need-returns
+returns : tie.Need-returns-then-sample-ge0
 returns c =
     let z = c.before.args.sample in
     let f = c.before.ranges.sample in
-    rw (seen z f) (kept z f (rw (seen z f) at c.if1.true)).same
+    rw (seen z f) (kept z f (rw (seen z f) at c.if-sample-ge0.true)).same
 
-below : (c : tie.Else1) → Under c.before.args.sample
+below : (c : tie.Else-sample-ge0) → Under c.before.args.sample
 below c =
     under c.before.args.sample c.before.ranges.sample
-    (rw (seen c.before.args.sample c.before.ranges.sample) at c.if1.false)
+    (rw (seen c.before.args.sample c.before.ranges.sample) at c.if-sample-ge0.false)
 
-sub-result : tie.Need-overflow-sub-result
+sub-result : tie.Need-overflow_sub-result
 sub-result c =
     let z = c.before.args.sample in
     rw (seen z c.before.ranges.sample, (below c).less) (sfits_of (below c).small)
 
-cast-result-2 : tie.Need-overflow-cast-result-2
+cast-result-2 : tie.Need-overflow_cast-result-2
 cast-result-2 c =
     rw (lower c.before.args.sample c.before.ranges.sample (below c))
     (tt, record { fits = omega (arith, (below c).small) })
 
-sub-result-2 : tie.Need-overflow-sub-result-2
+sub-result-2 : tie.Need-overflow_sub-result-2
 sub-result-2 c =
     rw (lower c.before.args.sample c.before.ranges.sample (below c)) (omega (arith, (below c).small))
 
-returns-2 : tie.Need-returns-2
+returns-2 : tie.Need-returns
 returns-2 c = rw (lower c.before.args.sample c.before.ranges.sample (below c)) (below c).same
 
 pub bits_spec : {M : Type 1} → statement M

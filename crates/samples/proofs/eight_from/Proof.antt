@@ -13,17 +13,17 @@ use Rattle.samples.proofs.{Reversed.length_back, Reversed.eight_short, Reversed.
 use Rattle.samples.proofs.eight_from.Statement.{statement}
 use Rattle.samples.proofs.eight_from.Tie as tie
 
-returns : tie.Need-returns
+returns : tie.Need-returns-then-s-lt8
 returns c =
     let p = c.before.before.args in
     sym (eight_short p.s.now p.at (omega arith))
 
-returns-2 : tie.Need-returns-2
+returns-2 : tie.Need-returns-then-s-at
 returns-2 c =
     let p = c.before.before.before.args in
     sym (eight_short p.s.now p.at (omega arith))
 
-returns-3 : tie.Need-returns-3
+returns-3 : tie.Need-returns
 unfolding swapped
 returns-3 c =
     let known = c.before.before.before.before in
@@ -31,9 +31,9 @@ returns-3 c =
     let s : List ℕ = p.s.now in
     let xs : List ℕ = slice s p.at 4 in
     let ys : List ℕ = slice s (p.at + 4) 4 in
-    let bytes : Below 256 s = λ i. omega (arith, known.shared-slice-known.given i) in
+    let bytes : Below 256 s = λ i. omega (arith, known.shared_slice_known-1.given i) in
     let four : length (reverse xs) ≡ 4 = length_back xs [] ∙ omega (arith, length_slice s p.at 4 (omega arith)) in
-    ap₂ (λ (upper lower : ℕ). upper * 2 ^ 32 + lower) c.four-from2.ensures c.before.four-from.ensures
+    ap₂ (λ (upper lower : ℕ). upper * 2 ^ 32 + lower) c.four_from-upper.ensures c.before.four_from-lower.ensures
     ∙ ap (λ (n : ℕ). number 256 (reverse ys) * 256 ^ n + number 256 (reverse xs)) (sym four)
     ∙ sym (number_append 256 (reverse ys) (reverse xs))
     ∙ ap (number 256) (sym (reverse-append xs ys))

@@ -27,13 +27,13 @@ below_zero : (n : ℕ) → 32768 ≤ n → n < 65536 → negsuc (65535 - n) ≡ 
 unfolding signed
 below_zero n lo hi = rw (le-ltb n 32768 lo)
 
-returns : tie.Need-returns
+returns : tie.Need-returns-then-n-lt32768
 returns c = positive c.before.args.n (omega arith)
 
-sub-result-2 : tie.Need-overflow-sub-result-2
+sub-result-2 : tie.Need-overflow_sub-result-2
 sub-result-2 c = negative_fits (65535 - c.before.args.n) (omega arith)
 
-returns-2 : tie.Need-returns-2
+returns-2 : tie.Need-returns
 returns-2 c =
     let n : ℕ = c.before.args.n in
     let small : 65535 - n < 32768 = omega arith in

@@ -60,23 +60,23 @@ kept n j above lowest =
 signed_so : {z : ℤ} (n : ℕ) {m : ℕ} → z ≡ signed m → m ≡ n → z ≡ signed n
 signed_so n e same = e ∙ ap signed same
 
-seen : (c : tie.After-signed)
-    → to_z w16 (of_z w16 c.signed.result) ≡ signed (c.before.args.upper * 256 + c.before.args.lower)
+seen : (c : tie.After-signed-number)
+    → to_z w16 (of_z w16 c.signed-number.result) ≡ signed (c.before.args.upper * 256 + c.before.args.lower)
 seen c =
-    to_z-of_z w16 c.signed.result (sfits_of c.signed.type-inv) ∙ signed_so _ c.signed.ensures (omega arith)
+    to_z-of_z w16 c.signed-number.result (sfits_of c.signed-number.type-inv) ∙ signed_so _ c.signed-number.ensures (omega arith)
 
-returns : tie.Need-returns
+returns : tie.Need-returns-then-number-le-LOWEST
 returns c =
     let p = c.before.before.args in
-    raised (p.upper * 256 + p.lower) (omega arith) (rw (seen c.before) at c.if1.true) (omega arith)
+    raised (p.upper * 256 + p.lower) (omega arith) (rw (seen c.before) at c.if-number-le-LOWEST.true) (omega arith)
     (omega arith)
     ∙ ap sample_of (two_bytes p.upper p.lower)
 
-returns-2 : tie.Need-returns-2
+returns-2 : tie.Need-returns
 returns-2 c =
     let p = c.before.before.args in
     seen c.before
-    ∙ kept (p.upper * 256 + p.lower) _ (rw (seen c.before) at c.if1.false) (omega arith)
+    ∙ kept (p.upper * 256 + p.lower) _ (rw (seen c.before) at c.if-number-le-LOWEST.false) (omega arith)
     ∙ ap sample_of (two_bytes p.upper p.lower)
 
 pub word_spec : {M : Type 1} → statement M

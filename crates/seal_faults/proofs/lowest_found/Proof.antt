@@ -13,12 +13,12 @@ use Rattle.pack.proofs.Samples.{no_sample_left, bad_sample, good_sample}
 use Rattle.seal_faults.proofs.lowest_found.Statement.{statement}
 use Rattle.seal_faults.proofs.lowest_found.Tie as tie
 
-abbrev invariant-loop : tie.invariant-loop
+abbrev invariant-loop : tie.invariant-loop-i
 invariant-loop samples found₀ i₀ found i =
     (good : Bool) × (i ≤ length samples) × (found ≡ cond good 0 1)
     × (samples_good samples ≡ (good && samples_good (drop i samples)))
 
-abbrev decreases-loop : tie.decreases-loop
+abbrev decreases-loop : tie.decreases-loop-i
 decreases-loop samples found₀ i₀ found i = length samples - i
 
 none : (b : Bool) → (b && false) ≡ false
@@ -50,12 +50,12 @@ module _ (zs : List ℤ) (i : ℕ) (good : Bool) (there : i < length zs)
   good_more : nat_abs z ≤ highest_sample → samples_good zs ≡ (good && samples_good (drop (i + 1) zs))
   good_more h = so ∙ ap (λ (b : Bool). good && b) (good_sample zs i there refl h)
 
-loop-again : tie.Need-loop-preserved invariant-loop decreases-loop
+loop-again : tie.Need-loop-i-preserved invariant-loop decreases-loop
 loop-again c =
-    let l = c.before.before.before.loop in
+    let l = c.before.before.before.loop-i in
     let zs : List ℤ = c.before.before.before.before.args.samples.now in
     let z : ℤ = get_or zs l.i (pos 0) in
-    let small : mag z < 32768 = c.before.if12.given in
+    let small : mag z < 32768 = c.before.t7-1.given in
     ⊎_elim
     (λ t. (
       false,
@@ -68,11 +68,11 @@ loop-again c =
       omega arith,
       t.1 ∙ l.invariant.2,
       good_more zs l.i l.invariant.0 (omega arith) l.invariant.3 (other z small t.0.left (omega arith)),
-    )) c.if1.branch
+    )) c.if-samples-i.branch
 
 returns : tie.Need-returns invariant-loop decreases-loop
 returns c =
-    let l = c.before.loop in
+    let l = c.before.loop-i in
     let zs : List ℤ = c.before.before.args.samples.now in
     let good : Bool = l.invariant.0 in
     l.invariant.2

@@ -13,8 +13,8 @@ use Rattle.seal_faults.proofs.seal_fault.Statement.{statement}
 use Rattle.seal_faults.proofs.seal_fault.Tie as tie
 
 -- what the three tests that aren't of numbers alone have told
-named : (c : tie.Else1) → AllRight (part_name_faults c.before.before.before.before.before.args.name.now)
-named c = none_wrong _ tt (sym c.before.name-fault.ensures ∙ c.if1.false)
+named : (c : tie.Else-fault-ne-ACCEPTED) → AllRight (part_name_faults c.before.before.before.before.before.args.name.now)
+named c = none_wrong _ tt (sym c.before.name_fault-fault.ensures ∙ c.if-fault-ne-ACCEPTED.false)
 
 none_found : (good : Bool) → cond good 0 1 ≤ 0 → good ≡ true
 none_found true h = refl
@@ -25,55 +25,55 @@ one_found true h = absurd (omega arith)
 one_found false h = refl
 
 -- from the rules on samples back to the one on the name
-abbrev after_name : tie.Else3 → tie.Else1
+abbrev after_name : tie.Else-key-gt-LAST_KEY → tie.Else-fault-ne-ACCEPTED
 after_name c = c.before.before.before
 
-samples_good_lem : (c : tie.Else5)
+samples_good_lem : (c : tie.Else-lowest-gt0)
     → samples_good (after_name c.before.before.before).before.before.before.before.before.args.samples.now
     ≡ true
-samples_good_lem c = none_found _ (omega (arith, c.before.before.lowest-found.ensures))
+samples_good_lem c = none_found _ (omega (arith, c.before.before.lowest_found-lowest.ensures))
 
-loops_good_lem : (c : tie.Else8)
+loops_good_lem : (c : tie.Else-not-loops_in_rule)
     → let p = (after_name c.before.before.before.before.before.before.before).before.before.before.before.before.args in
     loops_good (length p.samples.now) p.loops.now ≡ true
-loops_good_lem c = sym c.before.loops-in-rule.ensures ∙ not-false c.before.loops-in-rule.result c.if8.false
+loops_good_lem c = sym c.before.loops_in_rule.ensures ∙ not-false c.before.loops_in_rule.result c.if-not-loops_in_rule.false
 
-returns : tie.Need-returns
+returns : tie.Need-returns-then-fault-ne-ACCEPTED
 unfolding seal_faults
 returns c =
-    first_here (part_name_faults c.before.before.before.before.before.args.name.now) _ tt _ c.if1.true
-    c.before.name-fault.ensures
+    first_here (part_name_faults c.before.before.before.before.before.args.name.now) _ tt _ c.if-fault-ne-ACCEPTED.true
+    c.before.name_fault-fault.ensures
 
-returns-2 : tie.Need-returns-2
+returns-2 : tie.Need-returns-then-value-expected
 unfolding seal_faults
 returns-2 c =
     let n = named c.before.before in
     refused_so_lem 2 _ (n.0, (n.1.0, omega arith)) (omega arith)
 
-returns-3 : tie.Need-returns-3
+returns-3 : tie.Need-returns-then-key-gt-LAST_KEY
 unfolding seal_faults
 returns-3 c =
     let n = named c.before.before.before in
     refused_so_lem 3 _ (n.0, (n.1.0, omega arith)) (omega arith)
 
-returns-4 : tie.Need-returns-4
+returns-4 : tie.Need-returns-then-samples-gt-MOST_SAMPLES
 unfolding seal_faults
 returns-4 c =
     let n = named (after_name c.before.before) in
     refused_so_lem 4 _ (n.0, (n.1.0, omega arith)) (omega arith)
 
-returns-5 : tie.Need-returns-5
+returns-5 : tie.Need-returns-then-lowest-gt0
 unfolding seal_faults
 returns-5 c =
     let asked = c.before.before in
     let e = after_name asked.before in
     let n = named e in
     let bad : samples_good e.before.before.before.before.before.args.samples.now ≡ false =
-    one_found _ (omega (arith, asked.lowest-found.ensures)) in
+    one_found _ (omega (arith, asked.lowest_found-lowest.ensures)) in
     refused_so_lem 5 _ (n.0, (n.1.0, (omega arith, (omega arith, (omega arith, bad))))) (omega arith)
 
 -- the rules behind the samples', with what the tests before them have told
-returns-6 : tie.Need-returns-6
+returns-6 : tie.Need-returns-then-loops
 unfolding seal_faults
 returns-6 c =
     let e = c.before in
@@ -81,7 +81,7 @@ returns-6 c =
     refused_so_lem 6 _ (n.0, (n.1.0, (omega arith, (omega arith, (omega arith, (samples_good_lem e, omega arith))))))
     (omega arith)
 
-returns-7 : tie.Need-returns-7
+returns-7 : tie.Need-returns-then-loops-ne0
 unfolding seal_faults
 returns-7 c =
     let e = c.before.before in
@@ -89,10 +89,10 @@ returns-7 c =
     refused_so_lem 7 _ (n.0, (n.1.0, (omega arith, (omega arith, (omega arith, (samples_good_lem e, omega arith))))))
     (omega arith)
 
-returns-8 : tie.Need-returns-8
+returns-8 : tie.Need-returns-then-not-loops_in_rule
 unfolding seal_faults
 returns-8 c =
-    let bad = sym c.before.loops-in-rule.ensures ∙ not-true c.before.loops-in-rule.result c.if8.true in
+    let bad = sym c.before.loops_in_rule.ensures ∙ not-true c.before.loops_in_rule.result c.if-not-loops_in_rule.true in
     let e = c.before.before.before.before in
     let n = named (after_name e.before.before.before) in
     refused_so_lem 8 _ (
@@ -103,7 +103,7 @@ returns-8 c =
       ),
     ) (omega arith)
 
-returns-9 : tie.Need-returns-9
+returns-9 : tie.Need-returns-then-room-file_length
 unfolding seal_faults
 returns-9 c =
     let last = c.before.before.before in
@@ -123,7 +123,7 @@ returns-9 c =
       ),
     ) (omega arith)
 
-returns-10 : tie.Need-returns-10
+returns-10 : tie.Need-returns
 unfolding seal_faults
 returns-10 c =
     let last = c.before.before.before in
@@ -143,7 +143,7 @@ returns-10 c =
       ),
     )
 
-file-length-requires : tie.Need-file-length-requires
+file-length-requires : tie.Need-file_length-requires
 file-length-requires c κs =
     let e = after_name c.before.before.before.before.before.before.before.before in
     let p = e.before.before.before.before.before in

@@ -39,19 +39,19 @@ module _ (s : tie.Start) where
   ring = ring_for s.args.kind (rings s.args.ring s.args.second s.args.third)
 
 -- the fault, by the file's own length
-found : (c : tie.After-seal-fault)
+found : (c : tie.After-seal_fault-fault)
     → let s = c.before.before.before.before.before in
-    c.seal-fault.result
+    c.seal_fault-fault.result
     ≡ first (seal_faults (cipher s) (lent s) (length (layout (cipher s) (ring s) (lent s)))
     (length s.args.output.now))
 found c =
     let s = c.before.before.before.before.before in
-    c.seal-fault.ensures
+    c.seal_fault-fault.ensures
     ∙ ap (λ (n : ℕ). first (seal_faults (cipher s) (lent s) n (length s.args.output.now)))
     (sym (length_layout (cipher s) (ring s) (lent s)))
 
 -- what parts that aren't refused have shown
-known : (c : tie.Else1)
+known : (c : tie.Else-fault-ne-ACCEPTED)
     → let s = c.before.before.before.before.before.before in
     (length s.args.name.now ≤ 32) × (length s.args.value.now ≡ (cipher s).value_bytes)
     × (length s.args.value.now + tag_length (cipher s) ≤ 21) × (s.args.key ≤ 3)
@@ -61,32 +61,32 @@ known : (c : tie.Else1)
 unfolding seal_faults
 known c =
     let s = c.before.before.before.before.before.before in
-    let right = none_wrong _ tt (sym c.before.seal-fault.ensures ∙ c.if1.false) in
+    let right = none_wrong _ tt (sym c.before.seal_fault-fault.ensures ∙ c.if-fault-ne-ACCEPTED.false) in
     omega (arith, short_value s.args.kind)
 
-returns : tie.Need-returns
+returns : tie.Need-returns-then-fault-ne-ACCEPTED
 unfolding sealing_pack
-returns c = settled_left _ _ _ _ c.if1.true (found c.before)
+returns c = settled_left _ _ _ _ c.if-fault-ne-ACCEPTED.true (found c.before)
 
 -- the way back from each call to what was lent
-abbrev passed : tie.After-write-front → tie.Else1
+abbrev passed : tie.After-write_front → tie.Else-fault-ne-ACCEPTED
 passed c = c.before.before
 
-abbrev front : tie.After-write-samples → tie.After-write-front
+abbrev front : tie.After-write_samples → tie.After-write_front
 front c = c.before.before.before.before.before
 
-abbrev body_of : tie.After-write-loops → tie.After-write-samples
+abbrev body_of : tie.After-write_loops → tie.After-write_samples
 body_of c = c.before.before.before.before
 
-write-front-requires : tie.Need-write-front-requires
+write-front-requires : tie.Need-write_front-requires
 write-front-requires c κs = omega (arith, known c.before)
 
-write-loops-requires : tie.Need-write-loops-requires
+write-loops-requires : tie.Need-write_loops-requires
 write-loops-requires c κs =
     let w = c.before.before.before in
-    omega (arith, known (passed (front w)), w.write-samples.auto.1.1.0, (front w).write-front.auto.0)
+    omega (arith, known (passed (front w)), w.write_samples.auto.1.1.0, (front w).write-front.auto.0)
 
-write-end-requires : tie.Need-write-end-requires
+write-end-requires : tie.Need-write_end-requires
 write-end-requires c κs =
     let l = c.before.before.before in
     let w = body_of l in
@@ -98,8 +98,8 @@ write-end-requires c κs =
       omega (
         arith,
         k,
-        l.write-loops.auto.0,
-        w.write-samples.kept.1.1.0,
+        l.write_loops.auto.0,
+        w.write_samples.kept.1.1.0,
         (front w).write-front.kept.0,
       ),
     )
@@ -243,10 +243,10 @@ row_ring Trivium first second third n value file body loop at = refl
 row_ring Enocoro first second third n value file body loop at = refl
 row_ring Triad first second third n value file body loop at = refl
 
-abbrev lent_to : tie.After-tag-length → tie.Else1
+abbrev lent_to : tie.After-tag_length-tag → tie.Else-fault-ne-ACCEPTED
 lent_to c = passed (front (body_of c.before.before.before.before.before.before.before))
 
-returns-2 : tie.Need-returns-2
+returns-2 : tie.Need-returns
 unfolding sealing_pack beginning
 returns-2 c =
     let w = c.before.before.before in
@@ -257,20 +257,20 @@ returns-2 c =
     let a = s.args in
     let p = lent s in
     let k = known e in
-    let headed = ap (λ (n : ℕ). put a.output.now 0
+    let headed = ap (λ (n : ℕ). put a.output-1.now 0
     (name_section p ++ ((suc n ∷ p.key_number ∷ p.value) ++ row (fours 1) (length p.samples ∷ [])))) k.1 in
-    let under : ahead b.before.before.begin.result.cipher ≡ stream (cipher s) (ring s) p =
-    ap (λ (r : Ready). r.stream) (b.before.before.begin.ensures ∙ sym (done_if _ _ _ (k.3, (k.1, tt)))) in
-    let three = written (cipher s) (ring s) p a.output.now (omega (arith, k)) under ((front b).write-front.ensures
+    let under : ahead b.before.before.begin-begun.result.cipher ≡ stream (cipher s) (ring s) p =
+    ap (λ (r : Ready). r.stream) (b.before.before.begin-begun.ensures ∙ sym (done_if _ _ _ (k.3, (k.1, tt)))) in
+    let three = written (cipher s) (ring s) p a.output-1.now (omega (arith, k)) under ((front b).write-front.ensures
     ∙ headed)
-    b.write-samples.ensures (omega arith) l.write-loops.ensures in
+    b.write_samples.ensures (omega arith) l.write_loops.ensures in
     ap₂ (λ (n : ℕ) (d : List ℕ). outcome {A = Sealed} (record { refusal = accepted; length = n }) d)
-    (omega (arith, length_layout (cipher s) (ring s) p, c.tag-length.ensures))
-    (finished (cipher s) (ring s) p a.output.now _ (omega (arith, k)) three (omega (arith, k))
-    (w.write-end.ensures
+    (omega (arith, length_layout (cipher s) (ring s) p, c.tag_length-tag.ensures))
+    (finished (cipher s) (ring s) p a.output-1.now _ (omega (arith, k)) three (omega (arith, k))
+    (w.write_end.ensures
     ∙ ap (put _ (last (cipher s) (ring s) p)) (row_ring a.kind a.ring a.second a.third a.key
     a.value.now _ _ _ _)))
-    ∙ settled_done _ _ _ (sym e.if1.left ∙ found e.before)
+    ∙ settled_done _ _ _ (sym e.if-fault-ne-ACCEPTED.left ∙ found e.before)
 
 pub seal_spec : {M : Type 1} → statement M
 seal_spec =
@@ -278,5 +278,5 @@ seal_spec =
     (tie.spec (λ c κs. search rules) returns (λ c. omega (arith, known c)) (λ c. omega (arith, known c))
     (λ c. search rules) (λ c. omega (arith, known c)) (λ c. omega (arith, known c)) (λ c. search rules)
     (λ c. omega (arith, known c)) write-front-requires (λ c κs. search rules) (λ c κs. tt) write-loops-requires write-end-requires
-    (λ c κs. search rules) (λ c. omega (arith, known (lent_to c), c.tag-length.ensures))
+    (λ c κs. search rules) (λ c. omega (arith, known (lent_to c), c.tag_length-tag.ensures))
     (λ c. search rules) returns-2)

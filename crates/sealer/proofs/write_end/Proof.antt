@@ -16,8 +16,8 @@ use Rattle.sealer.proofs.write_end.Tie as tie
 abbrev under : tie.Start → Kind → List ℕ
 under s kind =
     let p = s.args in
-    put p.output.now p.at
-    (tag_row (cipher_of kind) (key_named p.ring p.number) p.value.now p.output.now p.start p.stop
+    put p.output-1.now p.at
+    (tag_row (cipher_of kind) (key_named p.ring p.number) p.value.now p.output-1.now p.start p.stop
     p.at)
 
 trivium_none : (s : tie.Start) → s.args.output.now ≡ under s Trivium
@@ -32,29 +32,29 @@ as_told : (s : tie.Start) (kind : Kind) {d : List ℕ} → s.args.kind ≡ kind 
     → d ≡ under s s.args.kind
 as_told s kind {d} told e = subst (λ (k : Kind). d ≡ under s k) (sym told) e
 
-returns : tie.Need-returns
+returns : tie.Need-returns-in-Trivium
 returns c =
-    let s = c.before.before.before.before in as_told s Trivium c.enum_told.given.1 (trivium_none s)
+    let s = c.before.before.before.before in as_told s Trivium c.enum_told-1.given.1 (trivium_none s)
 
-returns-2 : tie.Need-returns-2
+returns-2 : tie.Need-returns-in-Enocoro
 returns-2 c =
-    let s = c.before.before.before.before in as_told s Enocoro c.enum-told2.given.1 (enocoro_none s)
+    let s = c.before.before.before.before in as_told s Enocoro c.enum_told-in-Enocoro-1.given.1 (enocoro_none s)
 
-returns-3 : tie.Need-returns-3
+returns-3 : tie.Need-returns-in-Triad
 returns-3 c =
     let w = c.before.before in
     let t = w.before.before in
-    as_told t.before.before.before.before Triad t.enum-told3.given.1 w.write-tag.ensures
+    as_told t.before.before.before.before Triad t.enum_told-in-Triad-1.given.1 w.write_tag.ensures
 
-write-tag-requires : tie.Need-write-tag-requires
+write-tag-requires : tie.Need-write_tag-requires
 write-tag-requires c κs =
     let t = c.before in
     let s = t.before.before.before.before in
     let p = s.args in
     subst
     (λ (k : Kind). (p.number ≤ 3) × (length p.value.now ≡ (cipher_of k).value_bytes) × (p.start ≤ p.stop)
-    × (p.stop ≤ p.at) × (p.at + tag_length (cipher_of k) ≤ length p.output.now))
-    t.enum-told3.given.1 s.requires
+    × (p.stop ≤ p.at) × (p.at + tag_length (cipher_of k) ≤ length p.output-1.now))
+    t.enum_told-in-Triad-1.given.1 s.requires
 
 pub write_end_spec : {M : Type 1} → statement M
 write_end_spec =

@@ -61,15 +61,15 @@ returns c =
     let start = first.before.before.before.before.before in
     let p = start.args in
     let count : List ℕ = row (fours 1) (p.samples ∷ []) in
-    behind p.output.now p.name.now p.value.now count (suc (length p.value.now)) p.key
+    behind p.output-1.now p.name.now p.value.now count (suc (length p.value.now)) p.key
     (omega (arith, length_row (fours 1) (p.samples ∷ [])))
-    (first.write-number.ensures ∙ ap (put p.output.now 0) (one_digit 256 (length p.name.now) (omega arith)))
+    (first.write_number.ensures ∙ ap (put p.output-1.now 0) (one_digit 256 (length p.name.now) (omega arith)))
     second.copy.ensures
-    (third.write-number2.ensures
+    (third.write_number-2.ensures
     ∙ ap (put _ _) (ap (digits 256 2) (omega arith)
     ∙ two_bytes (suc (length p.value.now)) p.key (omega arith) (omega (arith, start.ranges.key))))
-    fourth.copy2.ensures
-    (fifth.write-number3.ensures ∙ ap (put _ _) (sym (append-nil (digits 256 4 p.samples))))
+    fourth.copy-2.ensures
+    (fifth.write_number-3.ensures ∙ ap (put _ _) (sym (append-nil (digits 256 4 p.samples))))
     (omega arith) (omega arith) (omega arith)
 
 pub write_front_spec : {M : Type 1} → statement M

@@ -11,11 +11,11 @@ use Rattle.pack.specs.Layout.{fours}
 use Rattle.sealer.proofs.write_loops.Statement.{statement}
 use Rattle.sealer.proofs.write_loops.Tie as tie
 
-abbrev invariant-loop : tie.invariant-loop
+abbrev invariant-loop : tie.invariant-loop-i
 invariant-loop output₀ at loops i₀ output i =
     (i ≤ length loops) × (length output ≡ length output₀) × (output ≡ put output₀ (at + 1) (row (fours i) loops))
 
-abbrev decreases-loop : tie.decreases-loop
+abbrev decreases-loop : tie.decreases-loop-i
 decreases-loop output₀ at loops i₀ output i = length loops - i
 
 nothing : (d loops : List ℕ) (at : ℕ) → d ≡ put d at (row (fours 0) loops)
@@ -39,37 +39,37 @@ one_more d loops at i room h place e =
     puts_on d at (row (fours i) loops) (digits 256 4 (get_or loops i 0)) e (omega arith) (omega arith)
     ∙ ap (put d at) (sym (row_more 4 i loops) ∙ ap (λ (n : ℕ). row (fours n) loops) (sym (add-one i)))
 
-cast-write-number : tie.Need-overflow-cast-write-number invariant-loop decreases-loop
-cast-write-number c = omega (arith, c.shared-slice-known2.given c.before.before.before.loop.i)
+cast-write-number : tie.Need-overflow_cast-loops invariant-loop decreases-loop
+cast-write-number c = omega (arith, c.shared_slice_known-in-loop-i-1.given c.before.before.before.loop-i.i)
 
-loop-again : tie.Need-loop-preserved invariant-loop decreases-loop
+loop-again : tie.Need-loop-i-preserved invariant-loop decreases-loop
 loop-again c =
     let w = c.before.before in
-    let l = w.before.before.before.before.loop in
+    let l = w.before.before.before.before.loop-i in
     let first = w.before.before.before.before.before.before.before in
     let p = first.before.before.before.before.args in
-    let d : List ℕ = first.write-number.new.0 in
-    let kept : length d ≡ length p.output.now = first.write-number.auto.0 in (
+    let d : List ℕ = first.write_number.new.0 in
+    let kept : length d ≡ length p.output-1.now = first.write_number.auto.0 in (
       omega arith,
-      w.write-number2.auto.0 ∙ l.invariant.1,
-      w.write-number2.ensures
+      w.write_number-in-loop-i.auto.0 ∙ l.invariant.1,
+      w.write_number-in-loop-i.ensures
           ∙ one_more d p.loops.now (p.at + 1) l.i (omega arith) (omega arith) (omega arith) l.invariant.2,
     )
 
-same_length : tie.Need-same-length invariant-loop decreases-loop
-same_length c = c.before.loop.invariant.1 ∙ c.before.before.before.before.write-number.auto.0
+same_length : tie.Need-shape_of-output invariant-loop decreases-loop
+same_length c = c.before.loop-i.invariant.1 ∙ c.before.before.before.before.write_number.auto.0
 
 returns : tie.Need-returns invariant-loop decreases-loop
 returns c =
-    let l = c.before.loop in
+    let l = c.before.loop-i in
     let first = c.before.before.before.before in
     let p = first.before.before.before.before.args in
     let n : ℕ = length p.loops.now in
     let all : l.i ≡ n = omega arith in
     l.invariant.2
-    ∙ ap (λ (k : ℕ). put first.write-number.new.0 (p.at + 1) (row (fours k) p.loops.now)) all
-    ∙ puts_on p.output.now p.at (n / 2 ∷ []) (row (fours n) p.loops.now)
-    (first.write-number.ensures ∙ ap (put p.output.now p.at) (one_digit 256 (n / 2) (omega arith)))
+    ∙ ap (λ (k : ℕ). put first.write_number.new.0 (p.at + 1) (row (fours k) p.loops.now)) all
+    ∙ puts_on p.output-1.now p.at (n / 2 ∷ []) (row (fours n) p.loops.now)
+    (first.write_number.ensures ∙ ap (put p.output-1.now p.at) (one_digit 256 (n / 2) (omega arith)))
     (omega arith)
     (omega (arith, long n p.loops.now))
 

@@ -14,19 +14,19 @@ use Rattle.sealer.proofs.write_tag.Statement.{statement}
 use Rattle.sealer.proofs.write_tag.Tie as tie
 
 -- the way back from the tag to what was lent
-abbrev start : tie.After-slice → tie.Start
+abbrev start : tie.After-slice-front → tie.Start
 start f = f.before.before.before.before.before
 
-abbrev back : tie.After-write-number-arg2 → tie.Start
+abbrev back : tie.After-write_number-arg-2-1 → tie.Start
 back c = start c.before.before.before.before.before.before.before.before.before
 
 -- the tag by a row
-due : (d : tie.After-tag-due) → let p = (start d.before.before.before.before).args in
+due : (d : tie.After-tag_due-due) → let p = (start d.before.before.before.before).args in
     let key = key_named p.t1 p.number in
     d.tag_due_lem.result
     ≡ triad.tag key p.value.now
-    (slice p.output.now 0 p.start ++ slice p.output.now p.stop (p.at - p.stop))
-    (enciphered (triad.stream key p.value.now) (slice p.output.now p.start (p.stop - p.start)))
+    (slice p.output-1.now 0 p.start ++ slice p.output-1.now p.stop (p.at - p.stop))
+    (enciphered (triad.stream key p.value.now) (slice p.output-1.now p.start (p.stop - p.start)))
 due d =
     let b = d.before.before in
     let l = b.before in
@@ -37,8 +37,8 @@ due d =
     d.tag_due_lem.ensures
     ∙ sym (done_if _ _ _ (s.pre.1, tt))
     ∙ (λ i.
-    triad.tag key p.value.now (f.slice.ensures i ++ l.slice2.ensures i)
-    (enciphered (triad.stream key p.value.now) (b.slice3.ensures i)))
+    triad.tag key p.value.now (f.slice-front.ensures i ++ l.slice-loops.ensures i)
+    (enciphered (triad.stream key p.value.now) (b.slice-body.ensures i)))
 
 returns : tie.Need-returns
 unfolding tag_row row
@@ -48,9 +48,9 @@ returns c =
     let d = v.before.before in
     let s = start d.before.before.before.before in
     let p = s.args in
-    let out : List ℕ = p.output.now in
-    w.write-number2.ensures
-    ∙ puts_on out p.at (digits 256 1 8) (digits 256 8 d.tag_due_lem.result) v.write-number.ensures
+    let out : List ℕ = p.output-1.now in
+    w.write_number-2.ensures
+    ∙ puts_on out p.at (digits 256 1 8) (digits 256 8 d.tag_due_lem.result) v.write_number.ensures
     (omega (arith, length_digits 256 1 8)) (omega (
       arith,
       length_digits 256 1 8,

@@ -10,29 +10,29 @@ use Rattle.sender_bytes.proofs.{Anew.as_it_was, Anew.anew, begin.Statement.state
 use Rattle.sender_bytes.proofs.begin.Tie as tie
 
 -- the sender's own answer, for the record that the bytes are
-own : (b : tie.After-begin)
-    → let p = b.before.before.before.before.before.args in b.begin.result ≡ beginning
-    (sender_in p.sender.now) p.sound.now
+own : (b : tie.After-begin-begun)
+    → let p = b.before.before.before.before.before.args in b.begin-begun.result ≡ beginning
+    (sender_in p.sender-1.now) p.sound.now
 own b =
     let p =
-    b.before.before.before.before.before.args in b.begin.ensures
-    ∙ ap (λ (s : Sender). beginning s p.sound.now) b.before.sender-in.ensures
+    b.before.before.before.before.before.args in b.begin-begun.ensures
+    ∙ ap (λ (s : Sender). beginning s p.sound.now) b.before.sender_in-record.ensures
 
 -- the lengths of its two arrays
-sizes : (b : tie.After-begin)
-    → let s = b.begin.result.sender in (length s.key ≡ key_bytes) × (length s.pair ≡ pair_bytes)
+sizes : (b : tie.After-begin-begun)
+    → let s = b.begin-begun.result.sender in (length s.key ≡ key_bytes) × (length s.pair ≡ pair_bytes)
 sizes b = (search rules, search rules)
 
-returns : tie.Need-returns
+returns : tie.Need-returns-then-refusal-ne-ACCEPTED
 unfolding sender_begin beginning
-returns c = as_it_was _ _ _ (own c.before) c.if1.true
+returns c = as_it_was _ _ _ (own c.before) c.if-refusal-ne-ACCEPTED.true
 
-returns-2 : tie.Need-returns-2
+returns-2 : tie.Need-returns
 unfolding sender_begin beginning
 returns-2 c =
     let b = c.before.before.before.before.before.before in
-    anew _ _ _ (own b) tt (λ h. h.0) c.before.before.before.before.before.if1.false (sizes b).0 (sizes b).1
-    c.before.before.write-sender.ensures
+    anew _ _ _ (own b) tt (λ h. h.0) c.before.before.before.before.before.if-refusal-ne-ACCEPTED.false (sizes b).0 (sizes b).1
+    c.before.before.write_sender.ensures
 
 pub begin_spec : {M : Type 1} → statement M
 begin_spec =

@@ -8,32 +8,32 @@ use Rattle.sender_bytes.specs.Calls.{sender_make}
 use Rattle.sender_bytes.proofs.make.Statement.{statement}
 use Rattle.sender_bytes.proofs.make.Tie as tie
 
-returns : tie.Need-returns
+returns : tie.Need-returns-then-refusal-ne-ACCEPTED
 unfolding sender_make making_sender
 returns c =
     let m = c.before in
     let p = m.before.before.before.before.args in
-    made_refused _ _ _ (λ a. a.refusal) (λ a. sender_bytes a.sender) _ _ tt refl (λ n. refl)
-    m.new.ensures c.if1.true
+    made_refused _ _ _ (λ a. a.refusal) (λ a. sender_bytes a.sender-1) _ _ tt refl (λ n. refl)
+    m.new-made.ensures c.if-refusal-ne-ACCEPTED.true
 
-returns-2 : tie.Need-returns-2
+returns-2 : tie.Need-returns-then-sender-lt-SENDER_BYTES
 unfolding sender_make making_sender
 returns-2 c =
     let m = c.before.before in
     let p = m.before.before.before.before.args in
-    made_short _ _ _ (λ a. a.refusal) (λ a. sender_bytes a.sender) _ _ tt refl (λ n. refl)
-    m.new.ensures c.before.if1.false c.if2.true
+    made_short _ _ _ (λ a. a.refusal) (λ a. sender_bytes a.sender-1) _ _ tt refl (λ n. refl)
+    m.new-made.ensures c.before.if-refusal-ne-ACCEPTED.false c.if-sender-lt-SENDER_BYTES.true
 
-returns-3 : tie.Need-returns-3
+returns-3 : tie.Need-returns
 unfolding sender_make making_sender
 returns-3 c =
     let room = c.before.before.before.before.before in
     let m = room.before.before in
     let p = m.before.before.before.before.args in
-    made_stored _ _ _ (λ a. a.refusal) (λ a. sender_bytes a.sender) _ _ tt refl (λ n. refl)
-    m.new.ensures room.before.if1.false room.if2.false
+    made_stored _ _ _ (λ a. a.refusal) (λ a. sender_bytes a.sender-1) _ _ tt refl (λ n. refl)
+    m.new-made.ensures room.before.if-refusal-ne-ACCEPTED.false room.if-sender-lt-SENDER_BYTES.false
     (λ h. length_sender (fresh_sender p.key.now p.pair.now) h.0 h.1.0)
-    c.before.before.write-sender.ensures
+    c.before.before.write_sender.ensures
 
 pub make_spec : {M : Type 1} → statement M
 make_spec = tie.close (tie.spec (λ c κs. tt) returns returns-2 (λ c κs. tt) (λ c. search rules) returns-3)

@@ -15,8 +15,8 @@ phase_numbers_spec =
     tie.close
     (tie.spec (λ c. search rules) (λ c. search rules) (λ c. search rules) (λ c. search rules) (λ c. search rules)
     (λ c. search rules)
-    (λ c. ap phase_numbers (sym c.enum_told.given.1))
-    (λ c. ap phase_numbers (sym c.enum-told2.given.1))
-    (λ c. ap phase_numbers (sym c.before.phase.given.1))
-    (λ c. ap phase_numbers (sym c.enum-told3.given.1))
-    (λ c. one_reason c.enum-told4.given.0.0 ∙ ap phase_numbers (sym c.enum-told4.given.1)))
+    (λ c. ap phase_numbers (sym c.enum_told-1.given.1))
+    (λ c. ap phase_numbers (sym c.enum_told-in-Opening-1.given.1))
+    (λ c. ap phase_numbers (sym c.before.phase-1.given.1))
+    (λ c. ap phase_numbers (sym c.enum_told-in-Done-1.given.1))
+    (λ c. one_reason c.enum_told-in-Refused-TooLong-1.given.0.0 ∙ ap phase_numbers (sym c.enum_told-in-Refused-TooLong-1.given.1)))

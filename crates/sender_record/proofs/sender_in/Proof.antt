@@ -43,23 +43,23 @@ module _ (bytes : List ℕ) where
     by_count h m = rw (eq-eqb (length bytes) sender_size e, le-leb (number_at bytes 24 1) 4 h) m
 
 -- the two numbers that were read
-record Read (c : tie.After-two-at) : Type 0 where
-  number : c.before.number_at.result ≡ number_at c.before.before.before.before.args.bytes.now 24 1
-  known : c.two_at.result ≡ number_at c.before.before.before.before.args.bytes.now 25 2
+record Read (c : tie.After-two_at-known) : Type 0 where
+  number : c.before.number_at-number.result ≡ number_at c.before.before.before.before.args.bytes.now 24 1
+  known : c.two_at-known.result ≡ number_at c.before.before.before.before.args.bytes.now 25 2
 
-read : (c : tie.After-two-at) → Read c
+read : (c : tie.After-two_at-known) → Read c
 read c =
     record {
       number =
           (word_read c.before.before.before.before.args.bytes.now 24 1
-          (λ i. omega (arith, c.before.before.before.shared-slice-known.given i)) (omega arith)
-          c.before.number_at.ensures).0;
+          (λ i. omega (arith, c.before.before.before.shared_slice_known-1.given i)) (omega arith)
+          c.before.number_at-number.ensures).0;
       known = omega arith;
     }
 
 -- what the count decides, behind the other tests
-judged : (c : tie.Else2) {b : Bool} → let seen = c.before in
-    may seen.before.number_at.result seen.two_at.result ≡ b
+judged : (c : tie.Else-number-gt4) {b : Bool} → let seen = c.before in
+    may seen.before.number_at-number.result seen.two_at-known.result ≡ b
     → is_sender seen.before.before.before.before.args.bytes.now ≡ b
 judged c so =
     let seen = c.before in
@@ -67,35 +67,35 @@ judged c so =
     by_count seen.before.before.before.before.args.bytes.now (omega arith) (omega (arith, r))
     (sym (ap₂ may r.number r.known) ∙ so)
 
-returns : tie.Need-returns
+returns : tie.Need-returns-then-bytes-ne-SENDER_BYTES
 unfolding sender_in
 returns c =
     let bytes = c.before.before.before.args.bytes.now in
-    c.no-sender.ensures ∙ rw (other_length bytes (omega arith))
+    c.no_sender.ensures ∙ rw (other_length bytes (omega arith))
 
-returns-2 : tie.Need-returns-2
+returns-2 : tie.Need-returns-then-number-gt4
 unfolding sender_in
 returns-2 c =
     let seen = c.before.before in
     let bytes = seen.before.before.before.before.args.bytes.now in
-    c.no-sender2.ensures ∙ rw (no_phase bytes (omega arith) (omega (arith, read seen)))
+    c.no_sender-then-number-gt4.ensures ∙ rw (no_phase bytes (omega arith) (omega (arith, read seen)))
 
-returns-3 : tie.Need-returns-3
+returns-3 : tie.Need-returns-then-number-known
 unfolding sender_in
 returns-3 c =
     let seen = c.before.before.before in
     let none =
-    none_is (eqb seen.before.number_at.result 2) (eqb seen.two_at.result 0) c.before.if3.true in
-    c.no-sender3.ensures ∙ rw (judged c.before.before none)
+    none_is (eqb seen.before.number_at-number.result 2) (eqb seen.two_at-known.result 0) c.before.if-number-known.true in
+    c.no_sender-then-number-known.ensures ∙ rw (judged c.before.before none)
 
-returns-4 : tie.Need-returns-4
+returns-4 : tie.Need-returns
 unfolding sender_in
 returns-4 c =
     let f = c.before.before.before in
     let seen = f.before.before.before in
-    let one = one_is (eqb seen.before.number_at.result 2) (eqb seen.two_at.result 0) f.before.if3.false in
-    let front = f.front-in.ensures in
-    let phase = c.phase-in.ensures ∙ ap₂ phase_in (read seen).number (read seen).known in
+    let one = one_is (eqb seen.before.number_at-number.result 2) (eqb seen.two_at-known.result 0) f.before.if-number-known.false in
+    let front = f.front_in-front.ensures in
+    let phase = c.phase_in-phase.ensures ∙ ap₂ phase_in (read seen).number (read seen).known in
     rw (judged f.before.before one)
     (λ i. record
     { key = (front i).key; pair = (front i).pair; session = (front i).session; length = (front i).length; phase = phase i })

@@ -16,17 +16,17 @@ use Rattle.sender_record.proofs.{Record.length_sender, write_sender.Statement.st
 use Rattle.sender_record.proofs.write_sender.Tie as tie
 
 -- the lengths of the two arrays
-sizes : (s : tie.Start) → (length s.args.sender.key ≡ key_bytes) × (length s.args.sender.pair ≡ pair_bytes)
+sizes : (s : tie.Start) → (length s.args.sender.key-1 ≡ key_bytes) × (length s.args.sender.pair-1 ≡ pair_bytes)
 sizes s = (search rules, search rules)
 
-returns : tie.Need-returns
+returns : tie.Need-returns-then-d-lt-SENDER_BYTES
 returns c =
     let start = c.before.before in
     let s = start.args.sender in
     put_none start.args.d.now 0 (sender_bytes s)
     (rw (length_sender s (sizes start).0 (sizes start).1) (omega arith))
 
-returns-2 : tie.Need-returns-2
+returns-2 : tie.Need-returns
 unfolding sender_bytes
 returns-2 c =
     let two = c.before.before in
@@ -37,18 +37,18 @@ returns-2 c =
     let s = start.args.sender in
     let rest : List ℕ = row phase_widths (phase_numbers s.phase) in
     let long = length_front (front_of s) (sizes start).0 (sizes start).1 in
-    let after : List ℕ = front.write-front.new.0 in
+    let after : List ℕ = front.write_front.new.0 in
     let same : length after ≡ length d =
-    ap length front.write-front.ensures ∙ length_put d 0 (front_bytes (front_of s)) in
-    let n = front.before.before.phase-numbers in
-    let last : two.write-number2.new.0 ≡ put one.write-number.new.0 25 (digits 256 2 n.result.known) =
-    two.write-number2.ensures in
+    ap length front.write_front.ensures ∙ length_put d 0 (front_bytes (front_of s)) in
+    let n = front.before.before.phase_numbers-numbers in
+    let last : two.write_number-2.new.0 ≡ put one.write_number.new.0 25 (digits 256 2 n.result.known) =
+    two.write_number-2.ensures in
     last
-    ∙ ap (λ (l : List ℕ). put l 25 (digits 256 2 n.result.known)) one.write-number.ensures
+    ∙ ap (λ (l : List ℕ). put l 25 (digits 256 2 n.result.known)) one.write_number.ensures
     ∙ row_written after phase_widths (n.result.number ∷ n.result.known ∷ []) 24 (omega arith)
     ∙ ap (λ (l : List ℕ). put after 24 (row phase_widths l)) n.ensures
     ∙ goes_on d 0 (front_bytes (front_of s)) rest
-    (front.write-front.ensures ∙ put_placed d 0 (front_bytes (front_of s)) (omega arith))
+    (front.write_front.ensures ∙ put_placed d 0 (front_bytes (front_of s)) (omega arith))
     (omega arith) (omega (arith, length_row phase_widths (phase_numbers s.phase)))
     ∙ sym (put_placed d 0 (sender_bytes s) (rw (length_sender s (sizes start).0 (sizes start).1) (omega arith)))
 

@@ -12,7 +12,7 @@ unfolding frame_of
 made p q e f = λ i. record { left = (p ∙ ap level_of e) i; right = (q ∙ ap level_of f) i }
 
 returns : tie.Need-returns
-returns c = made c.before.level.ensures c.level2.ensures (search rules) (search rules)
+returns c = made c.before.level.ensures c.level-2.ensures (search rules) (search rules)
 
 pub frame_of_spec : {M : Type 1} → statement M
 frame_of_spec = tie.close (tie.spec (λ c κs. search rules) (λ c κs. search rules) returns)

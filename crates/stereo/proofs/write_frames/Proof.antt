@@ -12,11 +12,11 @@ use Rattle.stereo.proofs.Frames.{length_floats, floats_at}
 use Rattle.stereo.proofs.write_frames.Statement.{statement}
 use Rattle.stereo.proofs.write_frames.Tie as tie
 
-abbrev invariant-loop : tie.invariant-loop
+abbrev invariant-loop : tie.invariant-loop-at
 invariant-loop samples output₀ n at₀ output at =
     (at % 2 ≡ 0) × (at ≤ n) × (length output ≡ length output₀) × (output ≡ paste output₀ 0 (floats_of samples) at)
 
-abbrev decreases-loop : tie.decreases-loop
+abbrev decreases-loop : tie.decreases-loop-at
 decreases-loop samples output₀ n at₀ output at = n - at
 
 -- one frame more, its left float first
@@ -40,27 +40,27 @@ write_more samples output at frame h room e =
     ∙ paste_front output run (at + 1) nan (omega arith) (omega arith)
     ∙ ap (paste output 0 run) next
 
-returns : tie.Need-returns invariant-loop decreases-loop
+returns : tie.Need-returns-then-output-n invariant-loop decreases-loop
 returns c =
     let p = c.before.before.args in
     put_none p.output.now 0 (floats_of p.samples.now) (rw (length_floats p.samples.now) (omega arith))
 
-loop-holds : tie.Need-loop-init invariant-loop decreases-loop
+loop-holds : tie.Need-loop-at-init invariant-loop decreases-loop
 loop-holds c =
     let p = c.before.before.args in
     (refl, omega arith, refl, paste-zero p.output.now 0 (floats_of p.samples.now))
 
-loop-again : tie.Need-loop-preserved invariant-loop decreases-loop
+loop-again : tie.Need-loop-at-preserved invariant-loop decreases-loop
 loop-again c =
-    let l = c.before.before.before.before.loop in
+    let l = c.before.before.before.before.loop-at in
     let p = c.before.before.before.before.before.before.before.args in
-    let f : Stereo = c.frame-of.result in
+    let f : Stereo = c.frame_of-frame.result in
     let x : ℤ = get_or p.samples.now l.at (pos 0) in
     let y : ℤ = get_or p.samples.now (l.at + 1) (pos 0) in
     let seen : f ≡ frame_of x y =
-    c.frame-of.ensures
-    ∙ ap₂ frame_of (to_z-of_z w16 x (sfits_of c.before.before.frame-of-arg.given))
-    (to_z-of_z w16 y (sfits_of c.before.frame-of-arg2.given)) in (
+    c.frame_of-frame.ensures
+    ∙ ap₂ frame_of (to_z-of_z w16 x (sfits_of c.before.before.frame_of-arg-1.given))
+    (to_z-of_z w16 y (sfits_of c.before.frame_of-arg-in-loop-at-1.given)) in (
       omega arith,
       omega arith,
       length-set (set l.output l.at f.left) (l.at + 1) f.right
@@ -69,9 +69,9 @@ loop-again c =
           ∙ write_more p.samples.now p.output.now l.at f (omega arith) (omega arith) seen,
     )
 
-returns-2 : tie.Need-returns-2 invariant-loop decreases-loop
+returns-2 : tie.Need-returns invariant-loop decreases-loop
 returns-2 c =
-    let l = c.before.loop in
+    let l = c.before.loop-at in
     let p = c.before.before.before.before.args in
     let all : l.at ≡ length (floats_of p.samples.now) = omega (arith, length_floats p.samples.now) in
     l.invariant.3 ∙ paste_all p.output.now 0 (floats_of p.samples.now) l.at all (omega arith)
@@ -82,4 +82,4 @@ write_frames_spec =
     (tie.spec invariant-loop decreases-loop (λ c. omega arith) returns loop-holds (λ c. omega arith) (λ c. omega arith)
     (λ c. omega arith) (λ c. omega arith) (λ c. omega arith) (λ c κs. search rules) (λ c. omega arith)
     (λ c. omega arith) (λ c. omega arith) (λ c. omega arith) (λ c. simp length-set (omega arith))
-    (λ c. omega arith) (λ c. omega arith) loop-again (λ c. c.before.loop.invariant.2) returns-2)
+    (λ c. omega arith) (λ c. omega arith) loop-again (λ c. c.before.loop-at.invariant.2) returns-2)

@@ -55,13 +55,13 @@ returns c =
     let k : Keystream = ahead p.cipher in
     let bytes : List ℕ = slice p.body.now p.at p.size in
     let long : length bytes ≡ p.size = length_slice p.body.now p.at p.size (omega arith) in
-    let read = r.read-samples.ensures
-    ∙ ap (λ (b : List ℕ). reading_on k b s.before.blank.result) s.slice.ensures in (
-      gone k bytes s.before.blank.result read (omega arith) ∙ ap (λ (n : ℕ). from n k) long,
-      part_read level_from p.output.now (p.at / 2) k bytes
-          (w.write-frames.ensures
-          ∙ ap (put (slice p.output.now (p.at / 2) (length p.output.now - p.at / 2)) 0)
-          (framed k bytes s.before.blank.result read (omega arith) (p.size / 2 - 0) (omega arith) (omega arith)))
+    let read = r.read_samples-next.ensures
+    ∙ ap (λ (b : List ℕ). reading_on k b s.before.blank-samples.result) s.slice.ensures in (
+      gone k bytes s.before.blank-samples.result read (omega arith) ∙ ap (λ (n : ℕ). from n k) long,
+      part_read level_from p.output-1.now (p.at / 2) k bytes
+          (w.write_frames.ensures
+          ∙ ap (put (slice p.output-1.now (p.at / 2) (length p.output-1.now - p.at / 2)) 0)
+          (framed k bytes s.before.blank-samples.result read (omega arith) (p.size / 2 - 0) (omega arith) (omega arith)))
           refl (omega (arith, start.requires.3)),
     )
 

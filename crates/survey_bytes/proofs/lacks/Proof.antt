@@ -8,7 +8,7 @@ use Rattle.survey_bytes.proofs.lacks.Tie as tie
 
 returns : tie.Need-returns
 unfolding pack_lacks
-returns c = omega (arith, ap (λ (o : Opened). o.lacks) c.survey.ensures)
+returns c = omega (arith, ap (λ (o : Opened). o.lacks) c.survey-told.ensures)
 
 pub lacks_spec : {M : Type 1} → statement M
 lacks_spec = tie.close (tie.spec (λ c κs. tt) returns)

@@ -13,27 +13,27 @@ use Rattle.survey_bytes.proofs.Surveyed.{all_told, both_right}
 use Rattle.survey_bytes.proofs.survey.Statement.{statement}
 use Rattle.survey_bytes.proofs.survey.Tie as tie
 
-fault_is : (f : tie.After-fault) → let p = f.before.before.before.before.args in
-    f.fault.result ≡ first (pack_survey_faults p.file.now (length p.answer.now))
-fault_is f = f.fault.ensures f.before.before.before.before.args.file.now f.before.survey.ensures
+fault_is : (f : tie.After-fault-no) → let p = f.before.before.before.before.args in
+    f.fault-no.result ≡ first (pack_survey_faults p.file.now (length p.answer-1.now))
+fault_is f = f.fault-no.ensures f.before.before.before.before.args.file.now f.before.survey-told.ensures
 
-returns : tie.Need-returns
+returns : tie.Need-returns-then-no-ne-ACCEPTED
 unfolding pack_survey
-returns c = settled_left _ _ _ c.before.fault.result c.if1.true (fault_is c.before)
+returns c = settled_left _ _ _ c.before.fault-no.result c.if-no-ne-ACCEPTED.true (fault_is c.before)
 
-returns-2 : tie.Need-returns-2
+returns-2 : tie.Need-returns
 unfolding pack_survey
 returns-2 c =
     let t = c.before.before in
     let f = t.before.before.before in
     let s = f.before in
     let p = s.before.before.before.args in
-    let z = sym (fault_is f) ∙ t.before.before.if1.false in
-    let right = both_right p.file.now s.survey.ensures numbers_room (length p.answer.now) z in
+    let z = sym (fault_is f) ∙ t.before.before.if-no-ne-ACCEPTED.false in
+    let right = both_right p.file.now s.survey-told.ensures numbers_room (length p.answer-1.now) z in
     ap (λ (l : List ℕ). outcome accepted l)
-    (t.tell.ensures ∙ put_placed p.answer.now 0 (answer_numbers s.survey.result) right.1)
-    ∙ ap (λ (o : Opened). outcome accepted (placed p.answer.now 0 (answer_numbers o)))
-    (all_told p.file.now s.survey.ensures right.0)
+    (t.tell.ensures ∙ put_placed p.answer-1.now 0 (answer_numbers s.survey-told.result) right.1)
+    ∙ ap (λ (o : Opened). outcome accepted (placed p.answer-1.now 0 (answer_numbers o)))
+    (all_told p.file.now s.survey-told.ensures right.0)
     ∙ settled_done _ _ _ (sym z)
 
 pub survey_spec : {M : Type 1} → statement M

@@ -18,7 +18,7 @@ use Rattle.surveyor.proofs.{Lacking.lacking_so, survey.Statement.statement}
 use Rattle.surveyor.proofs.survey.Tie as tie
 
 -- what a file that passed has shown
-known : (c : tie.Else1)
+known : (c : tie.Else-number-ne-ACCEPTED)
     → let f = c.before.before.before.args.file.now in
     let cipher = cipher_in f in
     (1 ≤ length f) × (name_count f ≤ 32) × (key_place f + 1 + byte_at f (key_place f) ≡ sample_place cipher f)
@@ -26,50 +26,50 @@ known : (c : tie.Else1)
 unfolding file_faults faults_from_key faults_from_samples
 known c =
     let f = c.before.before.before.args.file.now in
-    let found = ap (λ (v : Verdict). v.number) c.before.file-fault.ensures in
-    let right = file_right (cipher_in f) f (sym found ∙ c.if1.false) in
+    let found = ap (λ (v : Verdict). v.number) c.before.file_fault-fault.ensures in
+    let right = file_right (cipher_in f) f (sym found ∙ c.if-number-ne-ACCEPTED.false) in
     omega arith
 
-returns : tie.Need-returns
+returns : tie.Need-returns-then-number-ne-ACCEPTED
 unfolding surveying
 returns c =
     let f = c.before.before.before.before.args.file.now in
-    let found = c.before.before.file-fault.ensures in
-    lacking_so _ _ _ c.refused-opening.ensures (lacks_of (cipher_in f) f)
+    let found = c.before.before.file_fault-fault.ensures in
+    lacking_so _ _ _ c.refused_opening.ensures (lacks_of (cipher_in f) f)
     (omega (arith, ap (λ (v : Verdict). v.lacks) found))
-    ∙ settled_left _ _ _ _ c.before.if1.true (ap (λ (v : Verdict). v.number) found)
+    ∙ settled_left _ _ _ _ c.before.if-number-ne-ACCEPTED.true (ap (λ (v : Verdict). v.number) found)
 
-cast-name-length : tie.Need-overflow-cast-name-length
-cast-name-length c = omega (arith, c.shared-slice-known2.given 0)
+cast-name-length : tie.Need-overflow_cast-name_length
+cast-name-length c = omega (arith, c.shared_slice_known-2-1.given 0)
 
-cast-sample-at : tie.Need-overflow-cast-sample-at
+cast-sample-at : tie.Need-overflow_cast-sample_at
 cast-sample-at c =
     let f = c.before.before.before.before.before.args.file.now in
-    omega (arith, c.shared-slice-known3.given (key_place f))
+    omega (arith, c.shared_slice_known-3-1.given (key_place f))
 
 -- the way back from each read to what the file has shown
-abbrev passed : tie.After-four-at → tie.Else1
+abbrev passed : tie.After-four_at-samples → tie.Else-number-ne-ACCEPTED
 passed c = c.before.before.before.before
 
 -- the sample count, which is lent by itself
-samples : (c : tie.After-four-at)
+samples : (c : tie.After-four_at-samples)
     → let f = (passed c).before.before.before.args.file.now in
-    c.four-at.result ≡ sample_count (cipher_in f) f
+    c.four_at-samples.result ≡ sample_count (cipher_in f) f
 samples c =
     let f = (passed c).before.before.before.args.file.now in
     let at : ℕ = key_place f + 1 + byte_at f (key_place f) in
-    c.four-at.ensures ∙ number_lent f at 4 ∙ ap (λ (n : ℕ). number_at f n 4) (known (passed c)).2
+    c.four_at-samples.ensures ∙ number_lent f at 4 ∙ ap (λ (n : ℕ). number_at f n 4) (known (passed c)).2
 
-cast-loops : tie.Need-overflow-cast-t15
+cast-loops : tie.Need-overflow_cast-result
 cast-loops c =
     let read = c.before.before in
     let f = (passed read).before.before.before.args.file.now in
     omega (
       arith,
-      c.shared-slice-known5.given (key_place f + 1 + byte_at f (key_place f) + 4 + 2 * read.four-at.result),
+      c.shared_slice_known-5-1.given (key_place f + 1 + byte_at f (key_place f) + 4 + 2 * read.four_at-samples.result),
     )
 
-returns-2 : tie.Need-returns-2
+returns-2 : tie.Need-returns
 unfolding surveying
 returns-2 c =
     let read = c.before.before in
@@ -88,7 +88,7 @@ returns-2 c =
       value_at = value_place f;
       loops_at = at i + 4 + 2 * samples read i + 1;
     })
-    ∙ settled_done _ _ _ (sym e.if1.left ∙ ap (λ (v : Verdict). v.number) e.before.file-fault.ensures)
+    ∙ settled_done _ _ _ (sym e.if-number-ne-ACCEPTED.left ∙ ap (λ (v : Verdict). v.number) e.before.file_fault-fault.ensures)
 
 pub survey_spec : {M : Type 1} → statement M
 survey_spec =

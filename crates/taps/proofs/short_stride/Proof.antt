@@ -15,12 +15,12 @@ returns c =
     (λ i.
     record {
       z = z.shifted.ensures i;
-      a = a.shifted2.ensures i;
-      b = b.shifted3.ensures i;
-      c = c.shifted4.ensures i;
+      a = a.shifted-2.ensures i;
+      b = b.shifted-3.ensures i;
+      c = c.shifted-4.ensures i;
     })
     ∙ ap (late p.n p.a0 p.b0 p.c0)
-    (all.stride.ensures ∙ sym (words_newest p.a1 p.a0 p.b1 p.b0 p.c1 p.c0))
+    (all.stride-all.ensures ∙ sym (words_newest p.a1 p.a0 p.b1 p.b0 p.c1 p.c0))
     ∙ late_newest p.a1 p.a0 p.b1 p.b0 p.c1 p.c0 p.n
 
 pub short_stride_spec : {M : Type 1} → statement M

@@ -3,10 +3,10 @@ use Rattle.std.proofs.Common.{◌-◌, length, rules}
 use Rattle.test_kit.proofs.number.Statement.{statement}
 use Rattle.test_kit.proofs.number.Tie as tie
 
-abbrev invariant-loop : tie.invariant-loop
+abbrev invariant-loop : tie.invariant-loop-i
 invariant-loop word value₀ i₀ value i = Unit {0}
 
-abbrev decreases-loop : tie.decreases-loop
+abbrev decreases-loop : tie.decreases-loop-i
 decreases-loop word value₀ i₀ value i = length word - i
 
 pub number_spec : {M : Type 1} → statement M

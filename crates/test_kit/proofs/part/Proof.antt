@@ -3,10 +3,10 @@ use Rattle.std.proofs.Common.{◌-◌, length, rules}
 use Rattle.test_kit.proofs.part.Statement.{statement}
 use Rattle.test_kit.proofs.part.Tie as tie
 
-abbrev invariant-loop : tie.invariant-loop
+abbrev invariant-loop : tie.invariant-loop-i
 invariant-loop text by n from₀ left₀ i₀ from left i = Unit {0}
 
-abbrev decreases-loop : tie.decreases-loop
+abbrev decreases-loop : tie.decreases-loop-i
 decreases-loop text by n from₀ left₀ i₀ from left i = length text - i
 
 pub part_spec : {M : Type 1} → statement M

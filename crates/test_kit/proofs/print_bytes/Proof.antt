@@ -3,10 +3,10 @@ use Rattle.std.proofs.Common.{◌-◌, length, rules}
 use Rattle.test_kit.proofs.print_bytes.Statement.{statement}
 use Rattle.test_kit.proofs.print_bytes.Tie as tie
 
-abbrev invariant-loop : tie.invariant-loop
+abbrev invariant-loop : tie.invariant-loop-i
 invariant-loop bytes i₀ i = Unit {0}
 
-abbrev decreases-loop : tie.decreases-loop
+abbrev decreases-loop : tie.decreases-loop-i
 decreases-loop bytes i₀ i = length bytes - i
 
 pub print_bytes_spec : {M : Type 1} → statement M

@@ -3,10 +3,10 @@ use Rattle.std.proofs.Common.{◌≡◌, ◌-◌, length, rules}
 use Rattle.test_kit.proofs.spell.Statement.{statement}
 use Rattle.test_kit.proofs.spell.Tie as tie
 
-abbrev invariant-loop : tie.invariant-loop
+abbrev invariant-loop : tie.invariant-loop-i
 invariant-loop piece output₀ at run count end₀ i₀ output end i = length output ≡ length output₀
 
-abbrev decreases-loop : tie.decreases-loop
+abbrev decreases-loop : tie.decreases-loop-i
 decreases-loop piece output₀ at run count end₀ i₀ output end i = count - i
 
 pub spell_spec : {M : Type 1} → statement M

@@ -4,10 +4,10 @@ use Rattle.std.proofs.Common.{◌-◌, arith, rules}
 use Rattle.test_link_calls.proofs.difference.Statement.{statement}
 use Rattle.test_link_calls.proofs.difference.Tie as tie
 
-abbrev invariant-loop : tie.invariant-loop
+abbrev invariant-loop : tie.invariant-loop-i
 invariant-loop before after from₀ end₀ i₀ from end i = Unit {0}
 
-abbrev decreases-loop : tie.decreases-loop
+abbrev decreases-loop : tie.decreases-loop-i
 decreases-loop before after from₀ end₀ i₀ from end i = 1024 - i
 
 pub difference_spec : {M : Type 1} → statement M

@@ -3,10 +3,10 @@ use Rattle.std.proofs.Common.{◌-◌, arith, rules}
 use Rattle.test_link_calls.proofs.run_all.Statement.{statement}
 use Rattle.test_link_calls.proofs.run_all.Tie as tie
 
-abbrev invariant-loop : tie.invariant-loop
+abbrev invariant-loop : tie.invariant-loop-n
 invariant-loop rows ends₀ n₀ ends n = Unit {0}
 
-abbrev decreases-loop : tie.decreases-loop
+abbrev decreases-loop : tie.decreases-loop-n
 decreases-loop rows ends₀ n₀ ends n = 1000 - n
 
 pub run_all_spec : {M : Type 1} → statement M

@@ -3,10 +3,10 @@ use Rattle.std.proofs.Common.{◌-◌, length, rules}
 use Rattle.test_pack_rows.proofs.run_all.Statement.{statement}
 use Rattle.test_pack_rows.proofs.run_all.Tie as tie
 
-abbrev invariant-loop : tie.invariant-loop
+abbrev invariant-loop : tie.invariant-loop-i
 invariant-loop rows i₀ i = Unit {0}
 
-abbrev decreases-loop : tie.decreases-loop
+abbrev decreases-loop : tie.decreases-loop-i
 decreases-loop rows i₀ i = length rows - i
 
 pub run_all_spec : {M : Type 1} → statement M

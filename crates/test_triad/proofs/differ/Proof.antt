@@ -3,10 +3,10 @@ use Rattle.std.proofs.Common.{rules}
 use Rattle.test_triad.proofs.differ.Statement.{statement}
 use Rattle.test_triad.proofs.differ.Tie as tie
 
-abbrev invariant-loop : tie.invariant-loop
+abbrev invariant-loop : tie.invariant-loop-left
 invariant-loop message steps count contents₀ word₀ differ₀ left₀ t8 contents word differ left = Unit {0}
 
-abbrev decreases-loop : tie.decreases-loop
+abbrev decreases-loop : tie.decreases-loop-left
 decreases-loop message steps count contents₀ word₀ differ₀ left₀ t8 contents word differ left = left
 
 pub differ_spec : {M : Type 1} → statement M

@@ -3,10 +3,10 @@ use Rattle.std.proofs.Common.{rules}
 use Rattle.test_triad.proofs.walk.Statement.{statement}
 use Rattle.test_triad.proofs.walk.Tie as tie
 
-abbrev invariant-loop : tie.invariant-loop
+abbrev invariant-loop : tie.invariant-loop-left
 invariant-loop message steps next₀ bits₀ word₀ left₀ next bits word left = Unit {0}
 
-abbrev decreases-loop : tie.decreases-loop
+abbrev decreases-loop : tie.decreases-loop-left
 decreases-loop message steps next₀ bits₀ word₀ left₀ next bits word left = left
 
 pub walk_spec : {M : Type 1} → statement M

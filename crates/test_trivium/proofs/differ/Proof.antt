@@ -3,10 +3,10 @@ use Rattle.std.proofs.Common.{rules}
 use Rattle.test_trivium.proofs.differ.Statement.{statement}
 use Rattle.test_trivium.proofs.differ.Tie as tie
 
-abbrev invariant-loop : tie.invariant-loop
+abbrev invariant-loop : tie.invariant-loop-left
 invariant-loop input steps count by-strides contents₀ differ₀ left₀ t11 contents differ left = Unit {0}
 
-abbrev decreases-loop : tie.decreases-loop
+abbrev decreases-loop : tie.decreases-loop-left
 decreases-loop input steps count by-strides contents₀ differ₀ left₀ t11 contents differ left = left
 
 pub differ_spec : {M : Type 1} → statement M

@@ -3,10 +3,10 @@ use Rattle.std.proofs.Common.{rules}
 use Rattle.test_trivium.proofs.walk.Statement.{statement}
 use Rattle.test_trivium.proofs.walk.Tie as tie
 
-abbrev invariant-loop : tie.invariant-loop
+abbrev invariant-loop : tie.invariant-loop-left
 invariant-loop steps next₀ word₀ left₀ next word left = Unit {0}
 
-abbrev decreases-loop : tie.decreases-loop
+abbrev decreases-loop : tie.decreases-loop-left
 decreases-loop steps next₀ word₀ left₀ next word left = left
 
 pub walk_spec : {M : Type 1} → statement M

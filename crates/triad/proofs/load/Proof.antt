@@ -16,11 +16,11 @@ returns c =
     let key = a1.before.before.before in
     let p = key.before.args in
     loaded_words p.key.now p.nonce.now (omega arith) (omega arith)
-    (λ i. omega (arith, key.shared-slice-known.given i))
-    (λ i. omega (arith, a1.before.before.shared-slice-known2.given i))
-    (omega (arith, a1.word_of.ensures)) (omega (arith, a0.word-of2.ensures))
-    (omega (arith, b1.word-of3.ensures)) b0.eight-from.ensures (omega (arith, c1.word-of4.ensures))
-    c.eight-from2.ensures
+    (λ i. omega (arith, key.shared_slice_known-1.given i))
+    (λ i. omega (arith, a1.before.before.shared_slice_known-2-1.given i))
+    (omega (arith, a1.word_of-a1.ensures)) (omega (arith, a0.word_of-a0.ensures))
+    (omega (arith, b1.word_of-b1.ensures)) b0.eight_from-b0.ensures (omega (arith, c1.word_of-c1.ensures))
+    c.eight_from-c0.ensures
 
 pub load_spec : {M : Type 1} → statement M
 load_spec =

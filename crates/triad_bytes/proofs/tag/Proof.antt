@@ -43,7 +43,7 @@ tag_bytes_lem key nonce associated message =
     ∙ digits_number 256 (omega arith) _ (tag_below key nonce associated message)
 
 -- what was lent, behind the maker's answer
-abbrev start : tie.After-new-tag → tie.Start
+abbrev start : tie.After-new_tag-made → tie.Start
 start t = t.before.before.before.before.before.before
 
 abbrev due : tie.Start → List ℕ
@@ -52,30 +52,30 @@ due s =
     triad_mac p.key.now p.value.now p.associated.now p.message.now
 
 -- key and value that aren't refused have their lengths
-sized : (t : tie.After-new-tag) → t.new-tag.result.refusal ≡ accepted → let p = (start t).args in
+sized : (t : tie.After-new_tag-made) → t.new_tag-made.result.refusal ≡ accepted → let p = (start t).args in
     (length p.key.now ≡ 16) × (length p.value.now ≡ 12)
 unfolding making_tag
 sized t z =
     let p = (start t).args in
     let right = none_wrong (make_faults triad p.key.now p.value.now) tt
-    (sym (answer_number _ _ _ (λ (m : Made). m.refusal) refl (λ n. refl) t.new-tag.ensures) ∙ z) in
+    (sym (answer_number _ _ _ (λ (m : Made). m.refusal) refl (λ n. refl) t.new_tag-made.ensures) ∙ z) in
     (right.0, right.1.0)
 
-returns : tie.Need-returns
+returns : tie.Need-returns-then-refusal-ne-ACCEPTED
 unfolding triad_tag making_tag
 returns c =
     let t = c.before in
     made_refused _ _ _ (λ (m : Made). m.refusal) (λ (m : Made). due (start t)) _ _ tt refl (λ n. refl)
-    t.new-tag.ensures c.if1.true
+    t.new_tag-made.ensures c.if-refusal-ne-ACCEPTED.true
 
-returns-2 : tie.Need-returns-2
+returns-2 : tie.Need-returns-then-buffer-lt-TAG_BYTES
 unfolding triad_tag making_tag
 returns-2 c =
     let t = c.before.before in
     made_short _ _ _ (λ (m : Made). m.refusal) (λ (m : Made). due (start t)) _ _ tt refl (λ n. refl)
-    t.new-tag.ensures c.before.if1.false c.if2.true
+    t.new_tag-made.ensures c.before.if-refusal-ne-ACCEPTED.false c.if-buffer-lt-TAG_BYTES.true
 
-returns-3 : tie.Need-returns-3
+returns-3 : tie.Need-returns
 unfolding triad_tag making_tag
 returns-3 c =
     let w = c.before.before in
@@ -86,23 +86,23 @@ returns-3 c =
     let t = e.before.before in
     let s = start t in
     let p = s.args in
-    let z = e.before.if1.false in
+    let z = e.before.if-refusal-ne-ACCEPTED.false in
     let both = sized t z in
-    let taken : a.absorb.result
+    let taken : a.absorb-all.result
     ≡ absorbing (absorbing (making_tag p.key.now p.value.now).registers (padded p.associated.now))
     p.message.now =
-    a.absorb.ensures
+    a.absorb-all.ensures
     ∙ ap (λ (r : Registers). absorbing r p.message.now)
-    (d.with-data.ensures
-    ∙ (λ i. absorbing (t.new-tag.ensures i).registers
+    (d.with_data-data.ensures
+    ∙ (λ i. absorbing (t.new_tag-made.ensures i).registers
     (padded (((λ j. p.associated.now ++ d.before.slice.ensures j) ∙ append-nil p.associated.now) i)))) in
     let tag = g.tag.ensures ∙ ap tagging taken
     ∙ tag_sent p.key.now p.value.now p.associated.now p.message.now both.0 both.1 in
     made_stored _ _ _ (λ (m : Made). m.refusal) (λ (m : Made). due s) _ _ tt refl (λ n. refl)
-    t.new-tag.ensures z e.if2.false
+    t.new_tag-made.ensures z e.if-buffer-lt-TAG_BYTES.false
     (λ _. tag_long p.key.now p.value.now p.associated.now p.message.now)
-    (w.write-number.ensures
-    ∙ ap (put p.buffer.now 0)
+    (w.write_number.ensures
+    ∙ ap (put p.buffer-1.now 0)
     (ap (digits 256 8) tag ∙ tag_bytes_lem p.key.now p.value.now p.associated.now p.message.now))
 
 pub tag_spec : {M : Type 1} → statement M

@@ -12,29 +12,29 @@ use Rattle.triad.proofs.{Loading.low_eight, Steps.ran_state, Steps.short_next}
 use Rattle.triad_runs.proofs.{Runs.absorbs_on, absorb.Statement.statement}
 use Rattle.triad_runs.proofs.absorb.Tie as tie
 
-abbrev invariant-loop : tie.invariant-loop
+abbrev invariant-loop : tie.invariant-loop-at
 invariant-loop bytes n moved₀ at₀ moved at =
     (at ≤ n) × (state moved ≡ absorbed (slice bytes 0 at) (state moved₀))
 
-abbrev decreases-loop : tie.decreases-loop
+abbrev decreases-loop : tie.decreases-loop-at
 decreases-loop bytes n moved₀ at₀ registers at = n - at
 
-loop-holds : tie.Need-loop-init invariant-loop decreases-loop
+loop-holds : tie.Need-loop-at-init invariant-loop decreases-loop
 unfolding absorbed bits_up_of steps_by
 loop-holds c = (omega arith, refl)
 
-loop-again : tie.Need-loop-preserved invariant-loop decreases-loop
+loop-again : tie.Need-loop-at-preserved invariant-loop decreases-loop
 loop-again c =
     let ran = c.before in
     let read = ran.before in
-    let l = read.before.before.loop in
+    let l = read.before.before.loop-at in
     let known = read.before.before.before in
     let p = known.before.args in
-    let b : Below 256 p.bytes.now = λ i. omega (arith, known.shared-slice-known.given i) in (
+    let b : Below 256 p.bytes.now = λ i. omega (arith, known.shared_slice_known-1.given i) in (
       omega arith,
-      absorbs_on p.bytes.now (state p.registers) (state l.moved) l.at 8 (omega arith) b l.invariant.1
-          (ran_state l.moved _ ran.run.ensures) (omega arith) (omega arith)
-          (read.eight-from.ensures ∙ low_eight p.bytes.now l.at (omega arith) b),
+      absorbs_on p.bytes.now (state p.registers) (state l.moved-1) l.at 8 (omega arith) b l.invariant.1
+          (ran_state l.moved-1 _ ran.run-ran.ensures) (omega arith) (omega arith)
+          (read.eight_from-message.ensures ∙ low_eight p.bytes.now l.at (omega arith) b),
     )
 
 returns : tie.Need-returns invariant-loop decreases-loop
@@ -42,17 +42,17 @@ unfolding absorbing
 returns c =
     let last = c.before in
     let read = last.before in
-    let l = read.before.before.loop in
+    let l = read.before.before.loop-at in
     let known = read.before.before.before in
     let p = known.before.args in
     let bytes : List ℕ = p.bytes.now in
     let few : ℕ = length bytes - l.at in
     let all : length bytes ≤ l.at + few = omega arith in
-    short_next l.moved _ _ last.short-stride.ensures (omega arith)
+    short_next l.moved-1 _ _ last.short_stride-ran.ensures (omega arith)
     ∙ ap packed
-    (absorbs_on bytes (state p.registers) (state l.moved) l.at few (omega arith)
-    (λ i. omega (arith, known.shared-slice-known.given i)) l.invariant.1 refl (omega arith)
-    (omega arith) read.low-bytes.ensures
+    (absorbs_on bytes (state p.registers) (state l.moved-1) l.at few (omega arith)
+    (λ i. omega (arith, known.shared_slice_known-1.given i)) l.invariant.1 refl (omega arith)
+    (omega arith) read.low_bytes-message.ensures
     ∙ ap (λ (xs : List ℕ). absorbed xs (state p.registers)) (take_all (l.at + few) bytes all))
 
 pub absorb_spec : {M : Type 1} → statement M

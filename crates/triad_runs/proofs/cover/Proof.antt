@@ -17,41 +17,41 @@ use Rattle.triad_runs.proofs.Runs.{gone_on, swap_gives, part_gives, covers_on, c
 use Rattle.triad_runs.proofs.cover.Statement.{statement}
 use Rattle.triad_runs.proofs.cover.Tie as tie
 
-abbrev invariant-loop : tie.invariant-loop
+abbrev invariant-loop : tie.invariant-loop-at
 invariant-loop bytes₀ n moved₀ at₀ bytes moved at =
     (at ≤ n) × (length bytes ≡ length bytes₀) × (state moved ≡ updates (zeros (8 * at)) (state moved₀))
     × (bytes ≡ placed bytes₀ 0 (enciphered (ahead moved₀) (slice bytes₀ 0 at)))
 
-abbrev decreases-loop : tie.decreases-loop
+abbrev decreases-loop : tie.decreases-loop-at
 decreases-loop bytes₀ n moved₀ at₀ bytes registers at = n - at
 
-loop-holds : tie.Need-loop-init invariant-loop decreases-loop
+loop-holds : tie.Need-loop-at-init invariant-loop decreases-loop
 unfolding enciphered steps_by
 loop-holds c = (omega arith, refl, refl, sym (placed_nothing c.before.args.bytes.now 0))
 
-loop-again : tie.Need-loop-preserved invariant-loop decreases-loop
+loop-again : tie.Need-loop-at-preserved invariant-loop decreases-loop
 loop-again c =
     let covered = c.before.before.before in
     let swap = covered.before in
     let ran = swap.before.before in
-    let l = ran.before.before.loop in
+    let l = ran.before.before.loop-at in
     let p = ran.before.before.before.before.args in
-    let here : State = state l.moved in
+    let here : State = state l.moved-1 in
     let gives =
-    swap_gives ran.run.result.word (ahead l.moved) swap.swapped.ensures
-    (word_gives here (ran_word l.moved _ ran.run.ensures) (omega arith)) in (
+    swap_gives ran.run-ran.result-1.word (ahead l.moved-1) swap.swapped.ensures
+    (word_gives here (ran_word l.moved-1 _ ran.run-ran.ensures) (omega arith)) in (
       omega arith,
-      covered.cover-at.auto.0 ∙ l.invariant.1,
-      gone_on (state p.registers) here l.at 8 l.invariant.2 (ran_state l.moved _ ran.run.ensures)
+      covered.cover_at.auto.0 ∙ l.invariant.1,
+      gone_on (state p.registers) here l.at 8 l.invariant.2 (ran_state l.moved-1 _ ran.run-ran.ensures)
           (omega arith) (omega arith),
-      covers_on (ahead p.registers) (ahead l.moved) p.bytes.now l.bytes l.at 8 _ l.invariant.3
-          (omega arith) (gone (state p.registers) l.at l.invariant.2) gives covered.cover-at.ensures,
+      covers_on (ahead p.registers) (ahead l.moved-1) p.bytes-1.now l.bytes-1 l.at 8 _ l.invariant.3
+          (omega arith) (gone (state p.registers) l.at l.invariant.2) gives covered.cover_at.ensures,
     )
 
-same_length : tie.Need-same-length invariant-loop decreases-loop
+same_length : tie.Need-shape_of-bytes invariant-loop decreases-loop
 same_length c =
     let covered = c.before.before.before in
-    covered.cover-at2.auto.0 ∙ covered.before.before.before.before.before.before.loop.invariant.1
+    covered.cover_at-2.auto.0 ∙ covered.before.before.before.before.before.before.loop-at.invariant.1
 
 returns : tie.Need-returns invariant-loop decreases-loop
 unfolding covering skipping
@@ -60,26 +60,26 @@ returns c =
     let down = covered.before in
     let swap = down.before.before in
     let ran = swap.before in
-    let l = ran.before.before.loop in
+    let l = ran.before.before.loop-at in
     let p = ran.before.before.before.before.args in
-    let here : State = state l.moved in
-    let bytes : List ℕ = p.bytes.now in
+    let here : State = state l.moved-1 in
+    let bytes : List ℕ = p.bytes-1.now in
     let few : ℕ = length bytes - l.at in
     let all : l.at + few ≡ length bytes = omega arith in
     let gives =
-    part_gives few swap.swapped2.result (ahead l.moved) (omega arith) (omega arith)
-    (swap_gives ran.short-stride.result.word (ahead l.moved) swap.swapped2.ensures
-    (word_gives here (short_word l.moved _ _ ran.short-stride.ensures) (omega arith)))
+    part_gives few swap.swapped-swapped.result-1 (ahead l.moved-1) (omega arith) (omega arith)
+    (swap_gives ran.short_stride-ran.result-1.word (ahead l.moved-1) swap.swapped-swapped.ensures
+    (word_gives here (short_word l.moved-1 _ _ ran.short_stride-ran.ensures) (omega arith)))
     (omega arith) down.shifted.ensures in
     let next =
-    short_next l.moved _ _ ran.short-stride.ensures (omega arith)
+    short_next l.moved-1 _ _ ran.short_stride-ran.ensures (omega arith)
     ∙ ap packed
     (gone_on (state p.registers) here l.at few l.invariant.2 refl (omega arith) (omega arith)
     ∙ ap (λ (n : ℕ). updates (zeros (8 * n)) (state p.registers)) all) in
     let done =
     covers_all (ahead p.registers) bytes
-    (covers_on (ahead p.registers) (ahead l.moved) bytes l.bytes l.at few _ l.invariant.3 (omega arith)
-    (gone (state p.registers) l.at l.invariant.2) gives covered.cover-at2.ensures)
+    (covers_on (ahead p.registers) (ahead l.moved-1) bytes l.bytes-1 l.at few _ l.invariant.3 (omega arith)
+    (gone (state p.registers) l.at l.invariant.2) gives covered.cover_at-2.ensures)
     all in
     λ i. outcome (next i) (done i)
 

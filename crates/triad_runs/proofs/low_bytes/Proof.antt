@@ -10,7 +10,7 @@ returns c =
     let known = read.before in
     let p = known.before.args in
     low_read p.bytes.now p.at p.n (omega arith) (omega arith)
-    (λ i. omega (arith, known.shared-slice-known.given i)) read.number_at.ensures up.shifted.ensures
+    (λ i. omega (arith, known.shared_slice_known-1.given i)) read.number_at-read.ensures up.shifted.ensures
     (omega arith) c.swapped.ensures
 
 pub low_bytes_spec : {M : Type 1} → statement M

@@ -11,7 +11,7 @@ returns : tie.Need-returns
 returns c =
     let made = c.before in
     let p = made.before.before.before.args in
-    ap (λ (m : Made). ahead m.registers) made.new.ensures
+    ap (λ (m : Made). ahead m.registers) made.new-made.ensures
     ∙ made_stream p.key.now p.value.now (omega arith) (omega arith)
 
 pub begun_spec : {M : Type 1} → statement M

@@ -33,13 +33,13 @@ module _ (key value front loops body : List ℕ) (long : length key ≡ 16) (sho
       (ap₂ (λ (xs ys : List ℕ). xs ++ ys) isFront isLoops)))
       ∙ tag_sent key value (front ++ loops) (enciphered stream body) long short
 
-returns : tie.Need-returns
+returns : tie.Need-returns-then-value-ne-VALUE_BYTES
 returns c = left_at _ _ _ 0 tt (omega arith)
 
 begun-requires : tie.Need-begun-requires
-begun-requires c κs = (c.begun-arg.given.0, omega arith)
+begun-requires c κs = (c.begun-arg-1.given.0, omega arith)
 
-returns-2 : tie.Need-returns-2
+returns-2 : tie.Need-returns
 returns-2 c =
     let message = c.before in
     let cipher = message.before in
@@ -48,9 +48,9 @@ returns-2 c =
     let arg = begun.before in
     let p = arg.before.before.before.before.before.before.args in
     c.tag.ensures
-    ∙ tagged p.key.now p.value.now p.front.now p.loops.now p.body.now arg.tag-begun-arg.given.0
-    (omega arith) cipher.begun.result begun.tag-begun.ensures after.with-data.ensures refl refl
-    cipher.begun.ensures message.with-body.ensures refl
+    ∙ tagged p.key.now p.value.now p.front.now p.loops.now p.body.now arg.tag_begun-arg-1.given.0
+    (omega arith) cipher.begun.result begun.tag_begun-made.ensures after.with_data-padded.ensures refl refl
+    cipher.begun.ensures message.with_body-all.ensures refl
     ∙ done_if _ _ _ (omega arith, tt)
 
 pub tag_due_spec : {M : Type 1} → statement M

@@ -22,7 +22,7 @@ module _ (start : Registers) (front loops : List ℕ) where
       (isSize ∙ ap (λ (m : ℕ). reverse (digits 256 7 m)) (count ∙ sym (length-append front loops)))
       ∙ in_pieces start (front ++ loops) _
 
-add-length-bytes : tie.Need-overflow-add-length-bytes
+add-length-bytes : tie.Need-overflow_add-front
 add-length-bytes c = let s = c.before.before in omega (arith, s.well-formed.1.0.1, s.well-formed.1.1.0.1)
 
 returns : tie.Need-returns
@@ -31,8 +31,8 @@ returns c =
     let first = second.before in
     let size = first.before in
     let p = size.before.before.before.args in
-    taken p.start p.front.now p.loops.now first.absorb.ensures refl second.absorb2.ensures refl
-    c.absorb3.ensures size.length_bytes.ensures (omega arith)
+    taken p.start p.front.now p.loops.now first.absorb-one.ensures refl second.absorb-two.ensures refl
+    c.absorb.ensures size.length_bytes-size.ensures (omega arith)
 
 pub with_data_spec : {M : Type 1} → statement M
 with_data_spec =

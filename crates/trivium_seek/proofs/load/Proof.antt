@@ -11,15 +11,15 @@ use Rattle.trivium_seek.proofs.load.Tie as tie
 returns : tie.Need-returns
 unfolding state
 returns c =
-    let b1 = c.before.number-at3.ensures in
-    let a0 = c.before.before.number-at2.ensures in
+    let b1 = c.before.number_at-b1.ensures in
+    let a0 = c.before.before.number_at-a0.ensures in
     let first = c.before.before.before in
-    let a1 = first.number_at.ensures in
+    let a1 = first.number_at-a1.ensures in
     let start = first.before.before.before in
-    (λ i. of_words (a1 i) (a0 i) (b1 i) (c.number-at4.ensures i) (7 * 2 ^ 44) 0)
+    (λ i. of_words (a1 i) (a0 i) (b1 i) (c.number_at-b0.ensures i) (7 * 2 ^ 44) 0)
     ∙ loaded_words start.args.key.now start.args.iv.now start.requires.0 start.requires.1
-    (λ i. omega (arith, first.before.before.shared-slice-known.given i))
-    (λ i. omega (arith, first.before.shared-slice-known2.given i))
+    (λ i. omega (arith, first.before.before.shared_slice_known-1.given i))
+    (λ i. omega (arith, first.before.shared_slice_known-2-1.given i))
 
 pub load_spec : {M : Type 1} → statement M
 load_spec = tie.close (tie.spec (λ c κs. tt) (λ c κs. tt) (λ c κs. tt) (λ c κs. tt) returns)

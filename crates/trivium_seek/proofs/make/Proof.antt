@@ -6,4 +6,4 @@ use Rattle.trivium_seek.proofs.make.Statement.{statement}
 use Rattle.trivium_seek.proofs.make.Tie as tie
 
 pub make_spec : {M : Type 1} → statement M
-make_spec = tie.close (tie.spec (λ c κs. tt) (λ c. c.make-at.ensures ∙ made_at_none _ _ (omega arith)))
+make_spec = tie.close (tie.spec (λ c κs. tt) (λ c. c.make_at.ensures ∙ made_at_none _ _ (omega arith)))

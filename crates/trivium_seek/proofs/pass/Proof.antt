@@ -8,35 +8,35 @@ use Rattle.trivium.proofs.Steps.{steps_none, ran_state, skip_from, run_begun}
 use Rattle.trivium_seek.proofs.pass.Statement.{statement}
 use Rattle.trivium_seek.proofs.pass.Tie as tie
 
-abbrev invariant-loop : tie.invariant-loop
+abbrev invariant-loop : tie.invariant-loop-left
 invariant-loop strides running₀ left₀ running left =
     skipping running.registers (8 * left) ≡ skipping running₀.registers (8 * strides)
 
-abbrev decreases-loop : tie.decreases-loop
+abbrev decreases-loop : tie.decreases-loop-left
 decreases-loop strides running₀ left₀ running left = left
 
-loop-again : tie.Need-loop-preserved invariant-loop decreases-loop
+loop-again : tie.Need-loop-left-preserved invariant-loop decreases-loop
 loop-again c =
-    let l = c.before.before.before.loop in
-    let ran = c.before.stride in
-    let old : Registers = l.running.registers in
+    let l = c.before.before.before.loop-left in
+    let ran = c.before.stride-ran in
+    let old : Registers = l.running-1.registers in
     let rest : ℕ = 8 * (l.left - 1) in
     let one_more : 8 + rest ≡ 8 * l.left = omega arith in
-    skip_from old ran.result.next.registers 8 rest (ran_state l.running ran.result ran.ensures)
+    skip_from old ran.result.next.registers 8 rest (ran_state l.running-1 ran.result ran.ensures)
     ∙ ap (skipping old) one_more
     ∙ l.invariant
 
 returns : tie.Need-returns invariant-loop decreases-loop
 unfolding skipping stopping
 returns c =
-    let l = c.before.before.loop in
-    let begun = c.before.before.before.of in
+    let l = c.before.before.loop-left in
+    let begun = c.before.before.before.of-running in
     let p = c.before.before.before.before.args in
-    let s : State = state l.running.registers in
+    let s : State = state l.running-1.registers in
     let none : 0 ≡ 8 * l.left = omega arith in
     c.stop.ensures
     ∙ ap packed (sym (steps_none s))
-    ∙ ap (skipping l.running.registers) none
+    ∙ ap (skipping l.running-1.registers) none
     ∙ l.invariant
     ∙ ap (λ (t : State). packed (steps (8 * (8 * p.strides)) t)) (run_begun p.registers begun.result begun.ensures)
 

@@ -17,13 +17,13 @@ returns c =
     let passed = c.before.before in
     let p = passed.before.args in
     let r : Registers = p.registers in
-    let there : Registers = passed.pass.result in
+    let there : Registers = passed.pass-passed.result-1 in
     let few : ℕ = p.bytes % 8 in
     let eights : ℕ = 8 * (p.bytes / 8) in
     let all : eights + few ≡ p.bytes = omega arith in
-    let last = c.before.short-stride.ensures ∙ few_strode there few (omega arith) (omega arith) in
+    let last = c.before.short_stride-last.ensures ∙ few_strode there few (omega arith) (omega arith) in
     (λ i. (last i).next)
-    ∙ ap (λ (q : Registers). skipping q few) (passed_over r eights _ passed.pass.ensures (omega arith))
+    ∙ ap (λ (q : Registers). skipping q few) (passed_over r eights _ passed.pass-passed.ensures (omega arith))
     ∙ skip_add r eights few
     ∙ ap (skipping r) all
 

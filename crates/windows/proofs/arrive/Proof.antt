@@ -51,19 +51,19 @@ few n = omega (arith, trailing_le 16 n)
 count_fits : (n : ℕ) → Fits w16 (count_trailing_zeros 16 n)
 count_fits n = omega (arith, trailing_le 16 n)
 
-returns : tie.Need-returns
+returns : tie.Need-returns-then-ahead-ge-WINDOW
 returns c = too_far _ _ (omega arith)
 
-returns-2 : tie.Need-returns-2
+returns-2 : tie.Need-returns-then-map-ahead-eq1
 returns-2 c = placed_already _ _ (omega arith)
 
-add-full : tie.Need-overflow-add-full
+add-full : tie.Need-overflow_add-full
 add-full c =
     let p = c.before.before.args in
     let up = moved_up p.ahead (omega arith) in
     omega (arith, fits p.map p.ahead (omega arith) (omega arith) (omega arith))
 
-returns-3 : tie.Need-returns-3
+returns-3 : tie.Need-returns
 returns-3 c =
     let up = moved_up c.before.before.args.ahead (omega arith) in
     arrives _ _ (omega arith) (omega arith) (omega arith) _ _ _ (omega arith) (omega arith) (omega arith)

@@ -40,13 +40,13 @@ few_left map left none even zero =
     ap (eqb (map / 2 ^ left)) zero ∙ none_past map left
     ∙ ap (λ (b : Bool). not b && ltb map (2 ^ left)) (sym (own_free map even))
 
-returns : tie.Need-returns
+returns : tie.Need-returns-then-map-eq1
 returns c = own_marked _ _ (omega arith)
 
-returns-2 : tie.Need-returns-2
+returns-2 : tie.Need-returns-then-left-ge-WINDOW
 returns-2 c = many_left _ _ (omega arith) (omega arith) (omega arith)
 
-returns-3 : tie.Need-returns-3
+returns-3 : tie.Need-returns
 returns-3 c = few_left _ _ _ (omega arith) (omega arith)
 
 pub map_in_rule_spec : {M : Type 1} → statement M

@@ -10,15 +10,15 @@ use Rattle.enocoro.proofs.{States.skip_none, Stretches.front_covered, Stretches.
 use Rattle.enocoro.proofs.{Stretches.stretch_more, Stretches.cover_done, Registers.cover.Statement.statement}
 use Rattle.enocoro.proofs.Registers.cover.Tie as tie
 
-abbrev invariant-loop : tie.invariant-loop
+abbrev invariant-loop : tie.invariant-loop-at
 invariant-loop bytes₀ n table registers₀ at₀ bytes registers at =
     (at ≤ n) × (length bytes ≡ length bytes₀) × (registers ≡ skipping registers₀ at)
     × (bytes ≡ front_covered registers₀ bytes₀ at)
 
-abbrev decreases-loop : tie.decreases-loop
+abbrev decreases-loop : tie.decreases-loop-at
 decreases-loop bytes₀ n table registers₀ at₀ bytes registers at = n - at
 
-loop-holds : tie.Need-loop-init invariant-loop decreases-loop
+loop-holds : tie.Need-loop-at-init invariant-loop decreases-loop
 unfolding enciphered
 loop-holds c = (
   omega arith,
@@ -35,28 +35,28 @@ loop-holds c = (
   refl,
 )
 
-loop-again : tie.Need-loop-preserved invariant-loop decreases-loop
+loop-again : tie.Need-loop-at-preserved invariant-loop decreases-loop
 loop-again c =
     let cover = c.before.before in
-    let size = cover.before.before.before.stretch.result in
-    let l = cover.before.before.before.before.before.loop in
+    let size = cover.before.before.before.stretch-size.result in
+    let l = cover.before.before.before.before.before.loop-at in
     let p = cover.before.before.before.before.before.before.before.before.args in
     let done =
-    stretch_more p.self p.bytes.now l.at size (l.at + size - l.at) {m = l.at + size} l.invariant.2
-    l.invariant.3 cover.cover-stretch.ensures (omega arith) (omega arith) (omega arith) in
-    let long = ap length done.1 ∙ length_covered p.self p.bytes.now (l.at + size) (omega arith) in
+    stretch_more p.self p.bytes-1.now l.at size (l.at + size - l.at) {m = l.at + size} l.invariant.2
+    l.invariant.3 cover.cover_stretch-registers.ensures (omega arith) (omega arith) (omega arith) in
+    let long = ap length done.1 ∙ length_covered p.self p.bytes-1.now (l.at + size) (omega arith) in
     (omega arith, long, done.0, done.1)
 
 returns : tie.Need-returns invariant-loop decreases-loop
 returns c =
-    let l = c.before.loop in
+    let l = c.before.loop-at in
     let p = c.before.before.before.before.args in
-    cover_done p.self p.bytes.now l.invariant.2 l.invariant.3 (omega arith)
+    cover_done p.self p.bytes-1.now l.invariant.2 l.invariant.3 (omega arith)
 
 pub cover_spec : {M : Type 1} → statement M
 cover_spec =
     tie.close
     (tie.spec invariant-loop decreases-loop (λ c κs. tt) loop-holds (λ c. omega arith) (λ c κs. tt) (λ c. omega arith)
     (λ c. omega arith) (λ c. omega arith) (λ c. omega arith)
-    (λ c κs. (c.before.before.before.before.before.table.ensures, simp length-take (omega arith)))
-    (λ c. omega arith) (λ c. omega arith) loop-again (λ c. c.before.loop.invariant.1) returns)
+    (λ c κs. (c.before.before.before.before.before.table-table.ensures, simp length-take (omega arith)))
+    (λ c. omega arith) (λ c. omega arith) loop-again (λ c. c.before.loop-at.invariant.1) returns)

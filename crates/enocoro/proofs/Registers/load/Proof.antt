@@ -7,24 +7,24 @@ use Rattle.enocoro.specs.Calls.{loading}
 use Rattle.enocoro.proofs.{Making.refused_as, Making.loads, Registers.load.Statement.statement}
 use Rattle.enocoro.proofs.Registers.load.Tie as tie
 
-returns : tie.Need-returns
+returns : tie.Need-returns-then-key-ne-KEY_BYTES
 unfolding loading
-returns c = refused_as bad_key c.refused-making.ensures (omega arith) ∙ left_at _ _ _ 0 tt (omega arith)
+returns c = refused_as bad_key c.refused_making.ensures (omega arith) ∙ left_at _ _ _ 0 tt (omega arith)
 
-returns-2 : tie.Need-returns-2
+returns-2 : tie.Need-returns-then-iv-ne-VALUE_BYTES
 unfolding loading
 returns-2 c =
-    refused_as bad_value c.refused-making2.ensures (omega arith) ∙ left_at _ _ _ 1 tt (omega arith, omega arith)
+    refused_as bad_value c.refused_making-then-iv-ne-VALUE_BYTES.ensures (omega arith) ∙ left_at _ _ _ 1 tt (omega arith, omega arith)
 
-returns-3 : tie.Need-returns-3
+returns-3 : tie.Need-returns
 returns-3 c =
     let second = c.before.before in
     let known = second.before.before.before in
     let p = known.before.before.args in
     loads p.key.now p.iv.now (omega arith) (omega arith)
-    (λ i. omega (arith, known.before.shared-slice-known.given i))
-    (λ i. omega (arith, known.shared-slice-known2.given i))
-    second.number_at.ensures c.before.number-at2.ensures c.number-at3.ensures
+    (λ i. omega (arith, known.before.shared_slice_known-1.given i))
+    (λ i. omega (arith, known.shared_slice_known-2-1.given i))
+    second.number_at-b0.ensures c.before.number_at-b1.ensures c.number_at-b2.ensures
     (omega arith) (omega arith) (omega arith)
 
 pub load_spec : {M : Type 1} → statement M

@@ -12,10 +12,10 @@ returns c =
     let first = second.before.before.before in
     let blank = first.before.before in
     let p = blank.before.args in
-    laid p.self blank.blank-window.result blank.blank-window.ensures (omega (arith, blank.before.well-formed))
+    laid p.self blank.blank_window-w.result blank.blank_window-w.ensures (omega (arith, blank.before.well-formed))
     (omega (arith, blank.before.well-formed))
-    first.write_word.ensures second.write-word2.ensures third.write-word3.ensures
-    fourth.write-word4.ensures (omega arith) (omega arith) (omega arith) (omega arith)
+    first.write_word.ensures second.write_word-2.ensures third.write_word-3.ensures
+    fourth.write_word-4.ensures (omega arith) (omega arith) (omega arith) (omega arith)
 
 pub window_spec : {M : Type 1} → statement M
 window_spec =

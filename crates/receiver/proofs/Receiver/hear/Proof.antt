@@ -20,78 +20,78 @@ use Rattle.receiver.proofs.Receiver.hear.Statement.{statement}
 use Rattle.receiver.proofs.Receiver.hear.Tie as tie
 
 -- the message is what was told, with the bytes from its byte 8 on
-module _ (c : tie.After-read) where
+module _ (c : tie.After-read-told) where
   abbrev message : List ℕ
   message = c.before.before.before.before.args.frame.now
 
-  fits : c.read.result ≡ told (heard_as (drop 8 message) c.read.result)
-  fits = told_again message c.read.ensures
+  fits : c.read-told.result ≡ told (heard_as (drop 8 message) c.read-told.result)
+  fits = told_again message c.read-told.ensures
 
 -- no rule is broken
-right : (c : tie.Else1) (run : List ℕ) → let t = c.before.before.read.result in
+right : (c : tie.Else-refusal-ne-ACCEPTED) (run : List ℕ) → let t = c.before.before.read-told.result in
     let p = c.before.before.before.before.before.before.args in t ≡ told (heard_as run t)
-    → AllRight (receive_faults p.self (length p.sound.now) (length p.answer.now) (heard_as run t))
+    → AllRight (receive_faults p.self (length p.sound-1.now) (length p.answer-1.now) (heard_as run t))
 right c run e =
     let p = c.before.before.before.before.before.before.args in
-    none_broken p.self (length p.sound.now) (length p.answer.now)
-    (heard_as run c.before.before.read.result) (sym (c.before.fault.ensures p.self run e) ∙ c.if1.false)
+    none_broken p.self (length p.sound-1.now) (length p.answer-1.now)
+    (heard_as run c.before.before.read-told.result) (sym (c.before.fault-refusal.ensures p.self run e) ∙ c.if-refusal-ne-ACCEPTED.false)
 
-returns : tie.Need-returns
+returns : tie.Need-returns-then-refusal-ne-ACCEPTED
 returns c =
     let r = c.before.before in
     let p = r.before.before.before.before.args in
-    refused_so_lem trivium p.self p.sound.now p.answer.now p.frame.now _
-    (told_back (message r) r.read.ensures) _ c.if1.true
-    (c.before.fault.ensures p.self (drop 8 (message r)) (fits r))
+    refused_so_lem trivium p.self p.sound-1.now p.answer-1.now p.frame.now _
+    (told_back (message r) r.read-told.ensures) _ c.if-refusal-ne-ACCEPTED.true
+    (c.before.fault-refusal.ensures p.self (drop 8 (message r)) (fits r))
 
-on-frame-requires : tie.Need-on-frame-requires
+on-frame-requires : tie.Need-on_frame-step-requires
 on-frame-requires c κs =
     let r = c.before.before in (
       r.before.before.before.before.args.self,
       (
         (right c (drop 8 (message r)) (fits r)).0,
-        λ run e. (right_both (content_faults _ _ (heard_as run r.read.result)) _ (right c run e).1.1).0,
+        λ run e. (right_both (content_faults _ _ (heard_as run r.read-told.result)) _ (right c run e).1.1).0,
       ),
     )
 
-add-length : tie.Need-overflow-add-t10
-add-length c = omega (arith, c.before.before.before.before.before.before.before.on-frame.ensures.0)
+add-length : tie.Need-overflow_add-result
+add-length c = omega (arith, c.before.before.before.before.before.before.before.on_frame-step.ensures.0)
 
 -- what the sound holds afterwards
-after : (c : tie.Joined2) → let s = c.before.before.before.before.before.before in
+after : (c : tie.Joined-step) → let s = c.before.before.before.before.before.before in
     let p = s.before.before.before.before.before.before.before.args in
     let r = p.self in
-    c.if2.sound ≡ cond s.on-frame.result.in_turn
-    (put p.sound.now (place r.count)
-    (covered trivium r.key r.pair r.session r.count (drop 8 p.frame.now))) p.sound.now
+    c.if-step.sound-1 ≡ cond s.on_frame-step.result.in_turn
+    (put p.sound-1.now (place r.count)
+    (covered trivium r.key r.pair r.session r.count (drop 8 p.frame.now))) p.sound-1.now
 after c =
-    ⊎_elim (λ w. rw w.0.taken (w.5 ∙ w.2.ensures)) (λ w. rw w.0.left w.1) c.if2.branch
+    ⊎_elim (λ w. rw w.0.taken (w.5 ∙ w.2.ensures)) (λ w. rw w.0.left w.1) c.if-step.branch
 
-same_length : tie.Need-same-length
+same_length : tie.Need-shape_of-sound
 same_length c =
-    ⊎_elim (λ w. ap length (w.5 ∙ w.2.ensures) ∙ length_put _ _ _) (λ w. ap length w.1) c.before.if2.branch
+    ⊎_elim (λ w. ap length (w.5 ∙ w.2.ensures) ∙ length_put _ _ _) (λ w. ap length w.1) c.before.if-step.branch
 
-returns-2 : tie.Need-returns-2
+returns-2 : tie.Need-returns
 returns-2 c =
     let written = c.before.before.before.before in
     let s = written.before.before.before in
     let r = s.before.before.before in
     let p = r.before.before.before.before.args in
     let run : List ℕ = drop 8 (message r) in
-    let t = r.read.result in
+    let t = r.read-told.result in
     let all = right s.before run (fits r) in
-    let room = (right_both (content_faults p.self (length p.sound.now) (heard_as run t)) _ all.1.1).1.0 in
-    let narrow = s.on-frame.ensures.0 in
-    let says = s.on-frame.ensures.1 p.self run p.sound.now (fits r) refl in
-    let n = s.on-frame.result in
+    let room = (right_both (content_faults p.self (length p.sound-1.now) (heard_as run t)) _ all.1.1).1.0 in
+    let narrow = s.on_frame-step.ensures.0 in
+    let says = s.on_frame-step.ensures.1 p.self run p.sound-1.now (fits r) refl in
+    let n = s.on_frame-step.result in
     let long = length_short n.kind n.named n.width n.count in
-    received_so trivium p.self p.sound.now p.answer.now p.frame.now (heard_as run t)
-    (told_back (message r) r.read.ensures) all (sym says.0) (sym (ap length says.2 ∙ long))
+    received_so trivium p.self p.sound-1.now p.answer-1.now p.frame.now (heard_as run t)
+    (told_back (message r) r.read-told.ensures) all (sym says.0) (sym (ap length says.2 ∙ long))
     (after c.before ∙ sym says.1)
-    (with_number (λ (held : ℕ). put p.answer.now 0 (short n.kind n.named n.width held)) n.count
-    written.write-short.ensures (omega arith)
+    (with_number (λ (held : ℕ). put p.answer-1.now 0 (short n.kind n.named n.width held)) n.count
+    written.write_short.ensures (omega arith)
     ∙ put_placed _ 0 _ (omega arith)
-    ∙ ap (placed p.answer.now 0) (sym says.2))
+    ∙ ap (placed p.answer-1.now 0) (sym says.2))
 
 pub hear_spec : {M : Type 1} → statement M
 hear_spec =

@@ -17,20 +17,20 @@ rest m = take_all (length m) (drop 8 m) (simp length-drop (omega arith))
 
 -- a run, covered, in its place
 in_place : (sound : List ℕ) (r : Receiver) {at : ℕ} {run own after : List ℕ}
-    → after ≡ put sound at (covered trivium r.key r.pair r.session r.count run) → at ≡ place r.count
+    → after ≡ put sound at (covered trivium r.key-1 r.pair-1 r.session r.count run) → at ≡ place r.count
     → run ≡ own
-    → after ≡ put sound (place r.count) (covered trivium r.key r.pair r.session r.count own)
+    → after ≡ put sound (place r.count) (covered trivium r.key-1 r.pair-1 r.session r.count own)
 in_place sound r e here same = cc
 
-same_length : tie.Need-same-length
+same_length : tie.Need-shape_of-sound
 same_length c = ap length c.before.before.cover.ensures ∙ length_put _ _ _
 
 returns : tie.Need-returns
 returns c =
     let call = c.before.before in
     let p = c.before.before.before.before.before.before.before.before.before.before.before.args in
-    in_place p.sound.now p.self call.cover.ensures (omega arith)
-    (call.before.before.before.before.slice.ensures ∙ rest p.frame.now)
+    in_place p.sound-1.now p.self call.cover.ensures (omega arith)
+    (call.before.before.before.before.slice-run.ensures ∙ rest p.frame.now)
 
 pub take_spec : {M : Type 1} → statement M
 take_spec =

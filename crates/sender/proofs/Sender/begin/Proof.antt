@@ -7,22 +7,22 @@ use Rattle.sender.specs.{Rules.sender_in_rule, Sender.beginning}
 use Rattle.sender.proofs.Sender.begin.Statement.{statement}
 use Rattle.sender.proofs.Sender.begin.Tie as tie
 
-within : (c : tie.Else1) → sender_in_rule c.before.before.before.args.self ≡ true
-within c = sym c.before.stage.ensures.0 ∙ not-false _ c.if1.false
+within : (c : tie.Else-not-in_rule) → sender_in_rule c.before.before.before.args.self ≡ true
+within c = sym c.before.stage-stage.ensures.0 ∙ not-false _ c.if-not-in_rule.false
 
-returns : tie.Need-returns
+returns : tie.Need-returns-then-not-in_rule
 unfolding beginning
-returns c = left_at _ _ _ 0 tt (sym c.before.stage.ensures.0 ∙ not-true _ c.if1.true)
+returns c = left_at _ _ _ 0 tt (sym c.before.stage-stage.ensures.0 ∙ not-true _ c.if-not-in_rule.true)
 
-returns-2 : tie.Need-returns-2
+returns-2 : tie.Need-returns-then-n-gt-MOST_BYTES
 unfolding beginning
 returns-2 c = left_at _ _ _ 1 tt (within c.before, omega arith)
 
-returns-3 : tie.Need-returns-3
+returns-3 : tie.Need-returns-then-session
 unfolding beginning
 returns-3 c = left_at _ _ _ 2 tt (within c.before.before, omega arith)
 
-returns-4 : tie.Need-returns-4
+returns-4 : tie.Need-returns
 unfolding beginning
 returns-4 c = done_if _ _ _ (within c.before.before.before.before, omega arith)
 

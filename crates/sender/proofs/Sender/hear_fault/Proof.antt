@@ -21,27 +21,27 @@ use Rattle.sender.proofs.Sender.hear_fault.Tie as tie
 Says : Sender → List ℕ → ℕ → Told → Type 0
 Says s run n t = n ≡ first (hear_faults s (heard_as run t))
 
-returns-2 : tie.Need-returns-2
+returns-2 : tie.Need-returns-in-Holds
 unfolding Says first told
 returns-2 c run =
     let t = c.before.before.before.before in
-    let got = t.what.given.0 in
+    let got = t.what-1.given.0 in
     let s = t.before.before.before.args.self in
-    let stage = t.before.before.stage.ensures in
-    subst (Says s run _) (sym t.what.given.1)
-    (c.transfer-fault.ensures
+    let stage = t.before.before.stage-stage.ensures in
+    subst (Says s run _) (sym t.what-1.given.1)
+    (c.transfer_fault.ensures
     ∙ (λ i. cond (not (stage.0 i)) out_of_rule (cond (not (stage.1 i)) no_transfer
     (cond (not (eqb got.0 s.session)) other_session (cond (ltb (stage.2 i) got.1.0) impossible accepted)))))
 
-returns-3 : tie.Need-returns-3
+returns-3 : tie.Need-returns-in-TooLong
 unfolding Says first told
 returns-3 c run =
     let t = c.before.before.before.before in
-    let session = t.what2.given.0.0 in
+    let session = t.what-in-TooLong-1.given.0.0 in
     let s = t.before.before.before.args.self in
-    let stage = t.before.before.stage.ensures in
-    subst (Says s run _) (sym t.what2.given.1)
-    (c.transfer-fault2.ensures
+    let stage = t.before.before.stage-stage.ensures in
+    subst (Says s run _) (sym t.what-in-TooLong-1.given.1)
+    (c.transfer_fault-in-TooLong.ensures
     ∙ (λ i. cond (not (stage.0 i)) out_of_rule (cond (not (stage.1 i)) no_transfer
     (cond (not (eqb session s.session)) other_session (cond (ltb 0 (stage.2 i)) impossible accepted)))))
 
@@ -54,14 +54,14 @@ other run (the_told.Block session number n) k = refl
 other run (the_told.Holds session held) k = absurd (miss (0 ∷ 1 ∷ 2 ∷ []) 3 tt k)
 other run (the_told.TooLong session) k = absurd (miss (0 ∷ 1 ∷ 2 ∷ []) 4 tt k)
 
-returns : tie.Need-returns
-returns c run = refused_at 0 _ (sym c.before.before.stage.ensures.0 ∙ not-true _ c.if1.true)
+returns : tie.Need-returns-then-not-in_rule
+returns c run = refused_at 0 _ (sym c.before.before.stage-stage.ensures.0 ∙ not-true _ c.if-not-in_rule.true)
 
-returns-4 : tie.Need-returns-4
+returns-4 : tie.Need-returns-else-not-in_rule
 returns-4 c run =
     let st = c.before.before in
-    let within = sym st.stage.ensures.0 ∙ not-false _ c.if1.false in
-    refused_at 1 _ (within, other run st.before.args.what c.before.match.keys3)
+    let within = sym st.stage-stage.ensures.0 ∙ not-false _ c.if-not-in_rule.false in
+    refused_at 1 _ (within, other run st.before.args.what c.before.in-Holds.keys3)
 
 pub hear_fault_spec : {M : Type 1} → statement M
 hear_fault_spec =

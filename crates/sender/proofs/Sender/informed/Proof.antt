@@ -17,33 +17,33 @@ use Rattle.sender.proofs.Sender.informed.Tie as tie
 so : (s : Sender) (run : List ℕ) {what t : Told} → what ≡ t → informed s (heard_as run t) ≡ informed s (heard_as run what)
 so s run e = ap (λ (t : Told). informed s (heard_as run t)) (sym e)
 
-returns : tie.Need-returns
+returns : tie.Need-returns-then-count-new_count
 returns c run =
     let t = c.before.before in
     let s = t.before.before.before.args.self in
-    let news = t.before.before.stage.ensures.2 in
-    rw (lt-ltb t.what.given.0.1.0 (news_count s.phase) (omega arith)) at (so s run t.what.given.1)
+    let news = t.before.before.stage-stage.ensures.2 in
+    rw (lt-ltb t.what-1.given.0.1.0 (news_count s.phase) (omega arith)) at (so s run t.what-1.given.1)
 
-returns-2 : tie.Need-returns-2
+returns-2 : tie.Need-returns-then-count-block_count
 returns-2 c run =
     let t = c.before.before.before.before in
     let s = t.before.before.before.args.self in
-    let held = t.what.given.0.1.0 in
-    let news = t.before.before.stage.ensures.2 in
+    let held = t.what-1.given.0.1.0 in
+    let news = t.before.before.stage-stage.ensures.2 in
     rw (le-ltb held (news_count s.phase) (omega arith), lt-ltb held (blocks s.length) (omega arith))
-    at (so s run t.what.given.1)
+    at (so s run t.what-1.given.1)
 
-returns-3 : tie.Need-returns-3
+returns-3 : tie.Need-returns-else-count-block_count
 returns-3 c run =
     let t = c.before.before.before.before in
     let s = t.before.before.before.args.self in
-    let held = t.what.given.0.1.0 in
-    let news = t.before.before.stage.ensures.2 in
+    let held = t.what-1.given.0.1.0 in
+    let news = t.before.before.stage-stage.ensures.2 in
     rw (le-ltb held (news_count s.phase) (omega arith), le-ltb held (blocks s.length) (omega arith))
-    at (so s run t.what.given.1)
+    at (so s run t.what-1.given.1)
 
-returns-4 : tie.Need-returns-4
-returns-4 c run = so c.before.before.before.args.self run c.enum_told.given.1
+returns-4 : tie.Need-returns-in-TooLong
+returns-4 c run = so c.before.before.before.args.self run c.enum_told-1.given.1
 
 -- what tells neither of Holds nor of Too long is no news
 other : (s : Sender) (run : List ℕ) (t : Told) → OneOf (0 ∷ 1 ∷ 2 ∷ []) (tag_of the_type t)
@@ -54,8 +54,8 @@ other s run (the_told.Block session number n) k = refl
 other s run (the_told.Holds session held) k = absurd (miss (0 ∷ 1 ∷ 2 ∷ []) 3 tt k)
 other s run (the_told.TooLong session) k = absurd (miss (0 ∷ 1 ∷ 2 ∷ []) 4 tt k)
 
-returns-5 : tie.Need-returns-5
-returns-5 c run = let p = c.before.before.args in other p.self run p.what c.match.keys3
+returns-5 : tie.Need-returns-in_default
+returns-5 c run = let p = c.before.before.args in other p.self run p.what-1 c.in-Holds.keys3
 
 pub informed_spec : {M : Type 1} → statement M
 informed_spec =

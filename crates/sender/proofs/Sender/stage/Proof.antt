@@ -39,27 +39,27 @@ ended s r (Sending known) h e = absurd (miss (3 ∷ 4 ∷ []) 2 tt h)
 ended s r Done h e = rw e (refl, refl, refl, λ sound same. refl)
 ended s r (Refused why) h e = rw e (refl, refl, refl, λ sound same. refl)
 
-returns : tie.Need-returns
+returns : tie.Need-returns-in-Idle
 unfolding Says sender_in_rule phase_in_rule due_in
 returns c =
-    subst (Says c.before.before.args.self _) (sym c.enum_told.given.1)
+    subst (Says c.before.before.args.self _) (sym c.enum_told-1.given.1)
     (so_far _, refl, refl, λ sound same. refl)
 
-returns-2 : tie.Need-returns-2
+returns-2 : tie.Need-returns-in-Opening
 unfolding Says sender_in_rule phase_in_rule due_in
 returns-2 c =
     let s = c.before.before.args.self in
-    subst (Says s _) (sym c.enum-told2.given.1)
+    subst (Says s _) (sym c.enum_told-in-Opening-1.given.1)
     (refl, refl, refl, λ sound same. sym (length_opening s.session s.length))
 
-returns-3 : tie.Need-returns-3
+returns-3 : tie.Need-returns-in-Sending
 unfolding Says sender_in_rule phase_in_rule due_in
 returns-3 c =
     let told = c.before.before.before in
     let s = told.before.before.args.self in
-    let k = told.phase.given.0.0 in
-    subst (Says s _) (sym told.phase.given.1) (
-      ap (λ (n : ℕ). leb s.length longest && (leb 1 s.session && ltb k n)) c.before.block-count.ensures,
+    let k = told.phase-1.given.0.0 in
+    subst (Says s _) (sym told.phase-1.given.1) (
+      ap (λ (n : ℕ). leb s.length longest && (leb 1 s.session && ltb k n)) c.before.block_count.ensures,
       refl,
       refl,
       λ sound same.
@@ -67,9 +67,9 @@ returns-3 c =
           ∙ sym (length_block_frame trivium s sound k),
     )
 
-returns-4 : tie.Need-returns-4
+returns-4 : tie.Need-returns-in_default
 unfolding Says sender_in_rule
-returns-4 c = ended c.before.args.self _ c.before.args.self.phase c.match.keys4 refl
+returns-4 c = ended c.before.args.self _ c.before.args.self.phase-1 c.in-Idle.keys4 refl
 
 pub stage_spec : {M : Type 1} → statement M
 stage_spec =

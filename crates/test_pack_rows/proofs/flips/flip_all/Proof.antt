@@ -4,10 +4,10 @@ use Rattle.std.proofs.Common.{◌≡◌, ◌-◌, length, rules}
 use Rattle.test_pack_rows.proofs.flips.flip_all.Statement.{statement}
 use Rattle.test_pack_rows.proofs.flips.flip_all.Tie as tie
 
-abbrev invariant-loop : tie.invariant-loop
+abbrev invariant-loop : tie.invariant-loop-at
 invariant-loop file output₀ at₀ t4 output at = length output ≡ length output₀
 
-abbrev decreases-loop : tie.decreases-loop
+abbrev decreases-loop : tie.decreases-loop-at
 decreases-loop file output₀ at₀ t4 output at = length file - at
 
 pub flip_all_spec : {M : Type 1} → statement M

@@ -4,10 +4,10 @@ use Rattle.std.proofs.Common.{◌≡◌, ◌-◌, length, rules}
 use Rattle.test_pack_rows.proofs.flips.flip_byte.Statement.{statement}
 use Rattle.test_pack_rows.proofs.flips.flip_byte.Tie as tie
 
-abbrev invariant-loop : tie.invariant-loop
+abbrev invariant-loop : tie.invariant-loop-i
 invariant-loop file at output₀ bits i₀ t7 output i = length output ≡ length output₀
 
-abbrev decreases-loop : tie.decreases-loop
+abbrev decreases-loop : tie.decreases-loop-i
 decreases-loop file at output₀ bits i₀ t7 output i = 8 - i
 
 pub flip_byte_spec : {M : Type 1} → statement M

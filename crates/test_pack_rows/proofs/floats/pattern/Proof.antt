@@ -13,4 +13,4 @@ number (fin s m k) e = tt
 
 pub pattern_spec : {M : Type 1} → statement M
 pattern_spec =
-    tie.close (tie.spec (λ c. number _ c.if1.true) (λ c. search rules) (λ c. search rules))
+    tie.close (tie.spec (λ c. number _ c.if-x.true) (λ c. search rules) (λ c. search rules))

@@ -4,10 +4,10 @@ use Rattle.std.proofs.Common.{◌-◌, length, rules}
 use Rattle.test_pack_rows.proofs.parts.print_numbers.Statement.{statement}
 use Rattle.test_pack_rows.proofs.parts.print_numbers.Tie as tie
 
-abbrev invariant-loop : tie.invariant-loop
+abbrev invariant-loop : tie.invariant-loop-i
 invariant-loop numbers i₀ t3 i = Unit {0}
 
-abbrev decreases-loop : tie.decreases-loop
+abbrev decreases-loop : tie.decreases-loop-i
 decreases-loop numbers i₀ t3 i = length numbers - i
 
 pub print_numbers_spec : {M : Type 1} → statement M

@@ -3,10 +3,10 @@ use Rattle.std.proofs.Common.{◌≡◌, ◌-◌, length, rules}
 use Rattle.test_pack_rows.proofs.parts.twos.Statement.{statement}
 use Rattle.test_pack_rows.proofs.parts.twos.Tie as tie
 
-abbrev invariant-loop : tie.invariant-loop
+abbrev invariant-loop : tie.invariant-loop-i
 invariant-loop bytes output₀ i₀ at₀ output i at = length output ≡ length output₀
 
-abbrev decreases-loop : tie.decreases-loop
+abbrev decreases-loop : tie.decreases-loop-i
 decreases-loop bytes output₀ i₀ at₀ output i at = length output₀ - i
 
 pub twos_spec : {M : Type 1} → statement M

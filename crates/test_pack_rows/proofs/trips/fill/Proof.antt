@@ -3,10 +3,10 @@ use Rattle.std.proofs.Common.{◌≡◌, ◌-◌, length, rules}
 use Rattle.test_pack_rows.proofs.trips.fill.Statement.{statement}
 use Rattle.test_pack_rows.proofs.trips.fill.Tie as tie
 
-abbrev invariant-loop : tie.invariant-loop
+abbrev invariant-loop : tie.invariant-loop-i
 invariant-loop seed bytes₀ word₀ i₀ bytes word i = length bytes ≡ length bytes₀
 
-abbrev decreases-loop : tie.decreases-loop
+abbrev decreases-loop : tie.decreases-loop-i
 decreases-loop seed bytes₀ word₀ i₀ bytes word i = length bytes₀ - i
 
 pub fill_spec : {M : Type 1} → statement M

@@ -7,22 +7,22 @@ use Rattle.triad.proofs.{Steps.idle, Steps.idle_none, Steps.idle_on, Steps.permu
 use Rattle.triad.proofs.Registers.permuted.Statement.{statement}
 use Rattle.triad.proofs.Registers.permuted.Tie as tie
 
-abbrev invariant-loop : tie.invariant-loop
+abbrev invariant-loop : tie.invariant-loop-left
 invariant-loop first registers₀ left₀ registers left =
     (left ≤ left₀) × (state registers ≡ idle (64 * (left₀ - left)) (state registers₀))
 
-abbrev decreases-loop : tie.decreases-loop
+abbrev decreases-loop : tie.decreases-loop-left
 decreases-loop first registers₀ left₀ registers left = left
 
-loop-holds : tie.Need-loop-init invariant-loop decreases-loop
-loop-holds c = (omega arith, idle_none (state c.before.run.result.next) (omega arith))
+loop-holds : tie.Need-loop-left-init invariant-loop decreases-loop
+loop-holds c = (omega arith, idle_none (state c.before.run-begun.result.next) (omega arith))
 
-loop-again : tie.Need-loop-preserved invariant-loop decreases-loop
+loop-again : tie.Need-loop-left-preserved invariant-loop decreases-loop
 loop-again c =
-    let l = c.before.before.before.loop in
-    let begun = c.before.before.before.before.before.run.result.next in (
+    let l = c.before.before.before.loop-left in
+    let begun = c.before.before.before.before.before.run-begun.result.next in (
       omega arith,
-      idle_on (state begun) (state l.registers) l.invariant.1 (ran_state l.registers _ c.before.run2.ensures)
+      idle_on (state begun) (state l.registers-1) l.invariant.1 (ran_state l.registers-1 _ c.before.run-ran.ensures)
           (omega arith) (omega arith) (omega arith),
     )
 
@@ -30,8 +30,8 @@ returns : tie.Need-returns invariant-loop decreases-loop
 returns c =
     let begun = c.before.before.before in
     let p = begun.before.args in
-    permuted_strides p.first (state p.self) (state begun.run.result.next) (omega arith)
-    (ran_state p.self p.first begun.run.ensures) c.before.loop.invariant.1 (omega arith)
+    permuted_strides p.first (state p.self) (state begun.run-begun.result.next) (omega arith)
+    (ran_state p.self p.first begun.run-begun.ensures) c.before.loop-left.invariant.1 (omega arith)
 
 pub permuted_spec : {M : Type 1} → statement M
 permuted_spec =

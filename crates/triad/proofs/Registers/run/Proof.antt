@@ -8,7 +8,7 @@ returns : tie.Need-returns
 unfolding running striding state packed newest
 returns c =
     let r = c.before.args.self in
-    let new = c.stride.ensures in
+    let new = c.stride-new.ensures in
     λ i.
     record {
       word = (new i).z;

@@ -23,15 +23,15 @@ returns c =
     let start = stride.before in
     let p = start.args in
     let r = p.self in
-    let new = stride.stride.ensures in
+    let new = stride.stride-new.ensures in
     let moved =
     (λ i.
-    of_words (first.shifted.ensures i) (second.shifted2.ensures i) (third.shifted3.ensures i)
-    (fourth.shifted4.ensures i) (fifth.shifted5.ensures i) (sixth.shifted6.ensures i))
+    of_words (first.shifted.ensures i) (second.shifted-2.ensures i) (third.shifted-3.ensures i)
+    (fourth.shifted-4.ensures i) (fifth.shifted-5.ensures i) (sixth.shifted-6.ensures i))
     ∙ part_strode r.a1 r.a0 r.b1 r.b0 r.c1 r.c0 p.message new (omega (arith, start.well-formed))
     (omega (arith, start.well-formed)) (omega (arith, start.well-formed)) (omega (arith, start.well-formed))
-    (omega (arith, start.well-formed)) (omega (arith, start.well-formed)) few.at-most-64.result (omega arith)
-    ∙ ap (λ (n : ℕ). updates (bits_up n p.message) (state r)) few.at-most-64.ensures in
+    (omega (arith, start.well-formed)) (omega (arith, start.well-formed)) few.at_most_64-left.result (omega arith)
+    ∙ ap (λ (n : ℕ). updates (bits_up n p.message) (state r)) few.at_most_64-left.ensures in
     λ i. record { word = (new i).z; next = (c.cleared.ensures ∙ ap packed moved) i }
 
 pub short_stride_spec : {M : Type 1} → statement M

@@ -8,7 +8,7 @@ use Rattle.triad.specs.{Calls.stepping, Record.state, Record.packed}
 use Rattle.triad.proofs.{Steps.stepped, Steps.one_out, Steps.out_below, Registers.step.Statement.statement}
 use Rattle.triad.proofs.Registers.step.Tie as tie
 
-cast : tie.Need-overflow-cast-t8
+cast : tie.Need-overflow_cast-result
 unfolding newest state
 cast c =
     let new = c.before.before.before.before in
@@ -29,8 +29,8 @@ returns c =
     let r = p.self in
     let there =
     (λ i.
-    of_words (first.shifted.ensures i) new.step.result.a (second.shifted2.ensures i) new.step.result.b
-    (third.shifted3.ensures i) new.step.result.c)
+    of_words (first.shifted.ensures i) new.step.result.a (second.shifted-2.ensures i) new.step.result.b
+    (third.shifted-3.ensures i) new.step.result.c)
     ∙ stepped r.a1 r.a0 r.b1 r.b0 r.c1 r.c0 p.message (omega (arith, start.well-formed))
     (omega (arith, start.well-formed)) (omega (arith, start.well-formed)) (omega (arith, start.well-formed)) (omega (arith, start.well-formed))
     (omega (arith, start.well-formed)) new.step.ensures in

@@ -11,8 +11,8 @@ returns c =
     let p = ran.before.args in
     λ i.
     record {
-      word = ran_word p.self p.message ran.run.ensures i;
-      next = (c.cleared.ensures ∙ ap packed (ran_state p.self p.message ran.run.ensures)) i;
+      word = ran_word p.self p.message ran.run-ran.ensures i;
+      next = (c.cleared.ensures ∙ ap packed (ran_state p.self p.message ran.run-ran.ensures)) i;
     }
 
 pub stride_spec : {M : Type 1} → statement M

@@ -9,8 +9,8 @@ unfolding tagging
 returns c =
     let ran = c.before in
     let closed = ran.before in
-    tag_word (state closed.before.args.self) closed.permuted.ensures (omega arith)
-    (ran_word _ _ ran.run.ensures) (omega arith) (omega (arith, c.swapped.ensures))
+    tag_word (state closed.before.args.self) closed.permuted-closed.ensures (omega arith)
+    (ran_word _ _ ran.run-last.ensures) (omega arith) (omega (arith, c.swapped-number.ensures))
 
 pub tag_spec : {M : Type 1} → statement M
 tag_spec = tie.close (tie.spec (λ c κs. omega arith) (λ c κs. tt) (λ c κs. tt) returns)

@@ -9,18 +9,18 @@ use Rattle.trivium.specs.Calls.{skipping, answered, ahead, covering, enciphering
 use Rattle.trivium.proofs.Registers.encipher.Statement.{statement}
 use Rattle.trivium.proofs.Registers.encipher.Tie as tie
 
-returns : tie.Need-returns
+returns : tie.Need-returns-then-output-n
 unfolding enciphering
 returns c = left_at _ _ _ 0 tt (omega arith)
 
-returns-2 : tie.Need-returns-2
+returns-2 : tie.Need-returns
 unfolding covering enciphering
 returns-2 c =
     let cover = c.before.before in
     let copy = cover.before.before.before.before in
     let p = copy.before.before.before.before.before.args in
-    in_front answered ahead skipping p.self p.input.now p.output.now _ (length p.input.now - 0)
-    copy.copy.ensures (omega arith) (omega arith) cover.cover.ensures
+    in_front answered ahead skipping p.self p.input.now p.output-1.now _ (length p.input.now - 0)
+    copy.copy.ensures (omega arith) (omega arith) cover.cover-next.ensures
 
 pub encipher_spec : {M : Type 1} → statement M
 encipher_spec =

@@ -28,9 +28,9 @@ returns c =
     let c1 = upper_grown 47 r.c1 r.c0 (omega arith) n _ (omega arith) small.3 in
     let new = start.requires in
     let word : ℕ → ℕ → ℕ → ℕ = λ upper lower e. (upper * 2 ^ 64 + lower) / 2 ^ e % 2 ^ 64 in
-    let a = first.shifted.ensures ∙ ap (word r.a1 r.a0) most in
-    let b = second.shifted2.ensures ∙ ap (word r.b1 r.b0) most in
-    let d = c.shifted3.ensures ∙ ap (word r.c1 r.c0) most in
+    let a = first.shifted-a1.ensures ∙ ap (word r.a1 r.a0) most in
+    let b = second.shifted-b1.ensures ∙ ap (word r.b1 r.b0) most in
+    let d = c.shifted-c1.ensures ∙ ap (word r.c1 r.c0) most in
     λ i.
     record {
       word = (new i).z;

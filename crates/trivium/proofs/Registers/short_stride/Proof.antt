@@ -5,4 +5,4 @@ use Rattle.trivium.proofs.Registers.short_stride.Tie as tie
 
 pub short_stride_spec : {M : Type 1} → statement M
 unfolding state short_striding
-short_stride_spec = tie.close (tie.spec (λ c κs. tt) (λ c κs. c.short-stride.ensures) (λ c. c.moved.ensures))
+short_stride_spec = tie.close (tie.spec (λ c κs. tt) (λ c κs. c.short_stride-new.ensures) (λ c. c.moved.ensures))

@@ -5,4 +5,4 @@ use Rattle.trivium.proofs.Registers.stride.Tie as tie
 
 pub stride_spec : {M : Type 1} → statement M
 unfolding state striding
-stride_spec = tie.close (tie.spec (λ c κs. tt) (λ c κs. c.stride.ensures) (λ c. c.moved.ensures))
+stride_spec = tie.close (tie.spec (λ c κs. tt) (λ c κs. c.stride-new.ensures) (λ c. c.moved.ensures))

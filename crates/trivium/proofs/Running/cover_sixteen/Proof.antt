@@ -26,12 +26,12 @@ returns c =
     let read1 = read2.before.before in
     let known = read1.before.before in
     let p = known.before.args in
-    let bytes : List ℕ = p.bytes.now in
-    let below : Below 256 bytes = λ i. omega (arith, known.slice-known.given i) in
-    let one : Ran = stride1.stride.result in
-    let two : Ran = stride2.stride2.result in
-    let ran1 = stride1.stride.ensures in
-    let ran2 = stride2.stride2.ensures in
+    let bytes : List ℕ = p.bytes-1.now in
+    let below : Below 256 bytes = λ i. omega (arith, known.slice_known-1.given i) in
+    let one : Ran = stride1.stride-one.result-1 in
+    let two : Ran = stride2.stride-two.result-1 in
+    let ran1 = stride1.stride-one.ensures in
+    let ran2 = stride2.stride-two.ensures in
     let s : State = state p.self.registers in
     let mid : State = state one.next.registers in
     let on : mid ≡ steps 64 s = ran_state p.self one ran1 in
@@ -39,14 +39,14 @@ returns c =
     let first : left ≡ put bytes p.at (under bytes p.at 8 one.word) =
     put1.write_low.ensures
     ∙ ap (put bytes p.at)
-    (swapped_under bytes p.at one.word read1.eight-from.ensures (omega arith) turn1.swapped.ensures
+    (swapped_under bytes p.at one.word read1.eight_from-first.ensures (omega arith) turn1.swapped.ensures
     (omega arith) (ran_below p.self one ran1) (omega arith) below) in
     let second =
-    swapped_under bytes (p.at + 8) two.word read2.eight-from2.ensures (omega arith) turn2.swapped2.ensures
+    swapped_under bytes (p.at + 8) two.word read2.eight_from-second.ensures (omega arith) turn2.swapped-2.ensures
     (omega arith) (ran_below one.next two ran2) (omega arith) below in
     let long = length_run (keystream s) bytes p.at 16 (omega arith) in (
       ran_state one.next two ran2 ∙ ap (steps 64) on ∙ sym (steps_add 64 64 s),
-      put2.write-low2.ensures
+      put2.write_low-2.ensures
           ∙ ap (put left (p.at + 8)) second
           ∙ two_covers s mid bytes bytes left p.at 8 8 one.word two.word (omega arith) (omega arith) below
           (omega arith) (omega arith) on (ran_word p.self one ran1) first (ran_word one.next two ran2)

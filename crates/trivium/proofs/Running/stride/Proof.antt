@@ -8,7 +8,7 @@ returns : tie.Need-returns
 unfolding running newest state
 returns c =
     let r = c.before.before.args.self.registers in
-    let new = c.stride.ensures in
+    let new = c.stride-new.ensures in
     λ i.
     record {
       word = (new i).z;
