@@ -77,7 +77,7 @@ returns c =
     let p = (start v).args in
     let size : length (bytes v) ≡ p.size = long v in (
       gone v,
-      part_read word_of p.output-1.now (p.at / 2) (ahead p.cipher) (bytes v) words.read_words.ensures
+      part_read word_of p.output.now (p.at / 2) (ahead p.cipher) (bytes v) words.read_words.ensures
           (part.slice-2.ensures ∙ ap (take p.size) (filled v) ∙ front v) (omega (arith, (start v).requires.2)),
     )
 

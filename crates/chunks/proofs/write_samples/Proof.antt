@@ -15,19 +15,19 @@ use Rattle.chunks.proofs.write_samples.Tie as tie
 returns : tie.Need-returns-then-output-at
 returns c =
     let p = c.before.before.args in
-    no_room (ahead p.start) p.output-1.now p.at p.samples.now (omega arith)
+    no_room (ahead p.start) p.output.now p.at p.samples.now (omega arith)
 
 returns-2 : tie.Need-returns-then-output-at-2
 returns-2 c =
     let p = c.before.before.before.args in
-    no_room (ahead p.start) p.output-1.now p.at p.samples.now (omega arith)
+    no_room (ahead p.start) p.output.now p.at p.samples.now (omega arith)
 
 returns-3 : tie.Need-returns
 returns-3 c =
     let covered = c.before.before in
     let written = covered.before.before.before.before in
     let p = written.before.before.before.before.before.args in
-    let d : List ℕ = p.output-1.now in
+    let d : List ℕ = p.output.now in
     let at : ℕ = p.at in
     let run : List ℕ = bytes_of_all p.samples.now in
     let long : length run ≡ 2 * length p.samples.now = length_bytes p.samples.now in

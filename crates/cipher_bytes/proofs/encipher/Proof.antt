@@ -22,8 +22,8 @@ returns-2 c =
     let t = i.before.before.before in
     let p = t.before.before.before.before.args in
     kept_refused cipher_size cipher_in cipher_bytes ahead skipping answered (λ a. a.refusal) (λ a. a.next) (λ n r. refl)
-    (λ n r. refl) p.cipher-1.now p.input.now p.output-1.now s.encipher-done.ensures
-    (cipher_read p.cipher-1.now i.before.six_words_in.ensures i.registers_of-registers.ensures)
+    (λ n r. refl) p.cipher.now p.input.now p.output.now s.encipher-done.ensures
+    (cipher_read p.cipher.now i.before.six_words_in.ensures i.registers_of-registers.ensures)
     (omega arith) c.if-refusal-ne-ACCEPTED.true
 
 returns-3 : tie.Need-returns
@@ -34,8 +34,8 @@ returns-3 c =
     let t = i.before.before.before in
     let p = t.before.before.before.before.args in
     kept_done cipher_size cipher_in cipher_bytes ahead skipping answered (λ a. a.refusal) (λ a. a.next) (λ n r. refl)
-    (λ n r. refl) p.cipher-1.now p.input.now p.output-1.now s.encipher-done.ensures
-    (cipher_read p.cipher-1.now i.before.six_words_in.ensures i.registers_of-registers.ensures)
+    (λ n r. refl) p.cipher.now p.input.now p.output.now s.encipher-done.ensures
+    (cipher_read p.cipher.now i.before.six_words_in.ensures i.registers_of-registers.ensures)
     (omega arith) length_cipher c.before.before.before.before.before.if-refusal-ne-ACCEPTED.false
     (cipher_written _ _ c.before.before.before.words_of.ensures c.before.before.write_six_words.ensures)
 

@@ -12,7 +12,7 @@ returns : tie.Need-returns-then-d-lt-CIPHER_BYTES
 unfolding enocoro_bytes
 returns c =
     let p = c.before.before.args in
-    put_none p.d-1.now 0 (enocoro_bytes p.cipher)
+    put_none p.d.now 0 (enocoro_bytes p.cipher)
     (rw (length_row enocoro_widths (enocoro_numbers p.cipher)) (omega arith))
 
 returns-2 : tie.Need-returns
@@ -37,7 +37,7 @@ returns-2 c =
     (omega arith) (omega arith) (omega arith))
     (omega arith) (omega arith) (omega arith))
     (omega arith) (omega arith) (omega arith)
-    ∙ row_written p.d-1.now enocoro_widths (enocoro_numbers r) 0 (omega arith)
+    ∙ row_written p.d.now enocoro_widths (enocoro_numbers r) 0 (omega arith)
 
 pub write_cipher_spec : {M : Type 1} → statement M
 write_cipher_spec =

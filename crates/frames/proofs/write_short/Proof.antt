@@ -34,7 +34,7 @@ returns-3 c =
     ∙ ap (λ (d : List ℕ). put d 5 (digits 256 p.width p.number))
     (two.write_number-2.ensures
     ∙ ap (λ (d : List ℕ). put d 1 (digits 256 4 p.session)) one.write_number.ensures)
-    ∙ row_written p.frame-1.now (1 ∷ 4 ∷ p.width ∷ []) (p.kind ∷ p.session ∷ p.number ∷ []) 0 (omega arith)
+    ∙ row_written p.frame.now (1 ∷ 4 ∷ p.width ∷ []) (p.kind ∷ p.session ∷ p.number ∷ []) 0 (omega arith)
 
 pub write_short_spec : {M : Type 1} → statement M
 write_short_spec =

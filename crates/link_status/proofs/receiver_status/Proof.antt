@@ -23,10 +23,10 @@ returns c =
     let r : Receiver = read.receiver_in-record.result in
     let blocks-in = count.block_count-all.ensures in
     t.tell_status.ensures
-    ∙ receiver_told p.answer-1.now r rule.in_rule.ensures (omega arith) (omega arith) (omega arith)
+    ∙ receiver_told p.answer.now r rule.in_rule.ensures (omega arith) (omega arith) (omega arith)
     (omega (arith, blocks-in))
     (w.whole_flag.ensures ∙ ap (λ (all : ℕ). cond (some r.session && eqb r.count all) 1 0) blocks-in)
-    ∙ ap (λ (r : Receiver). telling (receiver_in_rule r) (receiver_numbers r) p.answer-1.now)
+    ∙ ap (λ (r : Receiver). telling (receiver_in_rule r) (receiver_numbers r) p.answer.now)
     read.receiver_in-record.ensures
 
 pub receiver_status_spec : {M : Type 1} → statement M

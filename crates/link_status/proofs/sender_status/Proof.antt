@@ -26,9 +26,9 @@ returns c =
     let number : phase.phase_numbers-numbers.result.number ≡ get_or (phase_numbers s.phase) 0 0 =
     ap (λ (l : List ℕ). get_or l 0 0) phase.phase_numbers-numbers.ensures in
     t.tell_status.ensures
-    ∙ sender_told p.answer-1.now s rule.in_rule.ensures (omega (arith, number)) (omega arith) (omega arith)
+    ∙ sender_told p.answer.now s rule.in_rule.ensures (omega (arith, number)) (omega arith) (omega arith)
     (n.known.ensures ∙ ap (λ (all : ℕ). known_in all s.phase) blocks-in) (omega (arith, blocks-in))
-    ∙ ap (λ (s : Sender). telling (sender_in_rule s) (sender_numbers s) p.answer-1.now) read.sender_in-record.ensures
+    ∙ ap (λ (s : Sender). telling (sender_in_rule s) (sender_numbers s) p.answer.now) read.sender_in-record.ensures
 
 pub sender_status_spec : {M : Type 1} → statement M
 sender_status_spec =

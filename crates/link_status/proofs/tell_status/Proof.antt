@@ -20,7 +20,7 @@ returns-3 c =
     let room = c.before.before.before.before.before in
     let p = room.before.before.before.args in
     ap (λ (l : List ℕ). outcome accepted l)
-    (c.before.before.write_numbers.ensures ∙ put_placed p.answer-1.now 0 _ (omega arith))
+    (c.before.before.write_numbers.ensures ∙ put_placed p.answer.now 0 _ (omega arith))
     ∙ done_if _ _ _ (not-false _ room.before.if-not-in_rule.false, (room.if-answer-lt-NUMBERS.false, tt))
 
 pub tell_status_spec : {M : Type 1} → statement M

@@ -12,7 +12,7 @@ returns c =
     let p = c.before.before.before.before.before.before.before.args in
     let call = c.before.before.write_number in
     call.ensures
-    ∙ ap (λ (x : ℕ). put p.bytes-1.now p.at (digits 256 p.n (bit_xor x p.stream)))
+    ∙ ap (λ (x : ℕ). put p.bytes.now p.at (digits 256 p.n (bit_xor x p.stream)))
     c.before.before.before.before.number_at-read.ensures
 
 pub cover_spec : {M : Type 1} → statement M

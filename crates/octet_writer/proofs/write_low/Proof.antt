@@ -20,7 +20,7 @@ returns c =
     let p = copied.before.before.before.before.args in
     let v : ℕ = p.word in
     copied.copy.ensures
-    ∙ ap (put p.d-1.now p.at) (ap (λ (x : ℕ). x ∷ drop 1 (reverse (digits 256 8 v))) (whole v) ∙ sym (swapped_digits v))
+    ∙ ap (put p.d.now p.at) (ap (λ (x : ℕ). x ∷ drop 1 (reverse (digits 256 8 v))) (whole v) ∙ sym (swapped_digits v))
 
 pub write_low_spec : {M : Type 1} → statement M
 write_low_spec =

@@ -23,7 +23,7 @@ returns c =
     let written = c.before.before in
     let turned = written.before in
     let p = turned.before.before.before.args in
-    as_it_is p.d-1.now p.at p.word _ written.write_low.ensures turned.swapped.ensures (omega arith)
+    as_it_is p.d.now p.at p.word _ written.write_low.ensures turned.swapped.ensures (omega arith)
 
 pub write_word_spec : {M : Type 1} → statement M
 write_word_spec = tie.close (tie.spec (λ c κs. tt) (λ c κs. tt) (λ c. search rules) returns)

@@ -25,7 +25,7 @@ own : (s : tie.After-seal-sealed)
     outcome s.seal-sealed.result s.seal-sealed.new.1.1.1.1.1.1.1.1.1.0
     ≡ sealing_file (picked p.cipher) (rings_of p.keys.now)
     (parts p.name.now p.key p.value.now p.samples.now p.loops.now)
-    p.output-1.now
+    p.output.now
 own s =
     let r = s.before.before.before in
     let k = r.before.before.before.before.before.before in
@@ -37,7 +37,7 @@ own s =
     let kind = s.before.before.kind_of-kind.ensures in
     s.seal-sealed.ensures
     ∙ (λ i. sealing_file (kind i) (are i)
-    (parts p.name.now p.key p.value.now p.samples.now p.loops.now) p.output-1.now)
+    (parts p.name.now p.key p.value.now p.samples.now p.loops.now) p.output.now)
 
 returns : tie.Need-returns-then-keys-ne-KEYS_BYTES
 unfolding pack_seal
@@ -49,7 +49,7 @@ returns-2 c =
     let s = c.before in
     let t = s.before.before.before in
     let p = t.before.before.before.before.before.before.args in
-    ap (wrote p.output-1.now p.written.now) (omega arith)
+    ap (wrote p.output.now p.written.now) (omega arith)
     ∙ settled_left _ _ _ s.name_fault-named.result c.if-named-ne-ACCEPTED.true
     (name_refuses p.cipher p.keys.now
     (parts p.name.now p.key p.value.now p.samples.now p.loops.now) _ _ (omega arith) _
@@ -74,7 +74,7 @@ found : (s : tie.After-seal-sealed) (n : ℕ)
     let sound = parts p.name.now p.key p.value.now p.samples.now p.loops.now in
     let size = length (file_of (picked p.cipher) (rings_of p.keys.now) sound) in
     n ≡ s.seal-sealed.result.refusal
-    → n ≡ first (pack_seal_faults p.cipher p.keys.now sound size (length p.output-1.now))
+    → n ≡ first (pack_seal_faults p.cipher p.keys.now sound size (length p.output.now))
 unfolding sealing_pack
 found s n e =
     let t = s.before.before.before.before.before.before.before.before.before.before.before in
@@ -82,7 +82,7 @@ found s n e =
     e
     ∙ answer_number _ _ _ (λ o. o.answer.refusal) refl (λ m. refl) (own s)
     ∙ sealer_decides p.cipher p.keys.now
-    (parts p.name.now p.key p.value.now p.samples.now p.loops.now) _ (length p.output-1.now)
+    (parts p.name.now p.key p.value.now p.samples.now p.loops.now) _ (length p.output.now)
     t.before.if-keys-ne-KEYS_BYTES.false
     (omega
     (arith, s.before.before.before.before.before.before.before.before.before.before.if-cipher-own_count.false, t.own_count.ensures))

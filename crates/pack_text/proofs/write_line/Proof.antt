@@ -21,7 +21,7 @@ returns c =
     let word = number.before.before.before.before in
     let p = word.before.before.before.before.args in
     let ended = number.write_decimal-line_end.ensures in
-    line_written p.d-1.now p.at p.word.now (decimal p.value) (omega (arith, length_decimal p.value))
+    line_written p.d.now p.at p.word.now (decimal p.value) (omega (arith, length_decimal p.value))
     word.copy.ensures (omega arith)
     (ap (λ (o : Outcome ℕ ℕ). o.buffer) ended)
     (ap (λ (o : Outcome ℕ ℕ). o.answer) ended)

@@ -13,9 +13,9 @@ returns c =
     let second = third.before.before.before.before.before in
     let first = second.before.before.before.before in
     let p = first.before.before.before.before.before.args in
-    line_written p.d-1.now 0 name_word p.name.now (omega arith) first.copy.ensures (omega arith)
+    line_written p.d.now 0 name_word p.name.now (omega arith) first.copy.ensures (omega arith)
     second.copy-2.ensures (omega arith) third.copy-3.ensures
-    ∙ text_first p.d-1.now (line name_word p.name.now)
+    ∙ text_first p.d.now (line name_word p.name.now)
 
 pub write_name_spec : {M : Type 1} → statement M
 write_name_spec =

@@ -16,18 +16,18 @@ returns : tie.Need-write_line-requires
 returns c =
     let w = c.before.before in
     let p = w.before.before.before.before.before.args in
-    w.write_line.ensures ∙ text_first p.d-1.now (line refused_word (decimal p.number))
-    ∙ ap (λ (t : List ℕ). writing t p.d-1.now) (refused_plain p.lacks p.number (omega arith))
+    w.write_line.ensures ∙ text_first p.d.now (line refused_word (decimal p.number))
+    ∙ ap (λ (t : List ℕ). writing t p.d.now) (refused_plain p.lacks p.number (omega arith))
 
 -- as far as the first number
 numbered : (c : tie.After-write_decimal-end)
     → let p = c.before.before.before.before.before.before.before.before.before.args in
     outcome c.write_decimal-end.result c.write_decimal-end.new.0
-    ≡ writing (refused_word ++ decimal p.number) p.d-1.now
+    ≡ writing (refused_word ++ decimal p.number) p.d.now
 numbered c =
     let word = c.before.before.before.before in
     let p = word.before.before.before.before.before.args in
-    text_on p.d-1.now refused_word (decimal p.number)
+    text_on p.d.now refused_word (decimal p.number)
     (omega (arith, length-append refused_word (decimal p.number), length_decimal p.number))
     (ap (λ (e : List ℕ). outcome 8 e) word.copy.ensures)
     (number_so _ _ _ p.number c.write_decimal-end.ensures (omega arith))
@@ -38,7 +38,7 @@ write-line-requires-2 c κs =
     let p = first.before.before.before.before.before.before.before.before.before.args in
     omega (
       arith,
-      text_ends p.d-1.now (refused_word ++ decimal p.number) (numbered first),
+      text_ends p.d.now (refused_word ++ decimal p.number) (numbered first),
       length-append refused_word (decimal p.number),
       length_decimal p.number,
     )
@@ -50,7 +50,7 @@ returns-2 c =
     let p = first.before.before.before.before.before.before.before.before.before.args in
     let word : List ℕ = refused_word ++ decimal p.number in
     let lacking : List ℕ = line (32 ∷ []) (decimal p.lacks) in
-    text_on p.d-1.now word lacking
+    text_on p.d.now word lacking
     (omega (
       arith,
       length-append word lacking,
@@ -59,7 +59,7 @@ returns-2 c =
       length_decimal p.number,
       length_decimal p.lacks,
     )) (numbered first) w.write_line-2.ensures
-    ∙ ap (λ (t : List ℕ). writing t p.d-1.now)
+    ∙ ap (λ (t : List ℕ). writing t p.d.now)
     (refused_lacking p.lacks p.number (omega arith))
 
 pub write_refused_spec : {M : Type 1} → statement M

@@ -38,7 +38,7 @@ returns c =
     let w = c.before.before in
     let p = w.before.before.before.before.before.args in
     w.write_refused.ensures
-    ∙ ap (λ (t : List ℕ). writing t p.d-1.now) (short_keys p.input.now w.before.before.if-input-lt-KEYS_BYTES.true)
+    ∙ ap (λ (t : List ℕ). writing t p.d.now) (short_keys p.input.now w.before.before.if-input-lt-KEYS_BYTES.true)
 
 returns-2 : tie.Need-returns-then-refusal-ne-ACCEPTED
 returns-2 c =

@@ -41,8 +41,8 @@ counted : (run : List ℕ) {t : Told} {session k n : ℕ} → t ≡ the_told.Blo
 counted run p e = cc
 
 said : (c : tie.Joined-what) (o : Receiver) (run : List ℕ) → let p = c.before.before.before.args in
-    p.what-1 ≡ told (heard_as run p.what-1)
-    → c.in-Opening.content ≡ first (frame_faults (with_numbers o c.before) p.sound (heard_as run p.what-1))
+    p.what ≡ told (heard_as run p.what)
+    → c.in-Opening.content ≡ first (frame_faults (with_numbers o c.before) p.sound (heard_as run p.what))
 unfolding Says
 said c o run e =
     let p = c.before.before.before.args in
@@ -55,7 +55,7 @@ said c o run e =
     (λ t.
     subst (Says r p.sound run _) (sym t.1.given.1)
     (t.4 ∙ t.3.ensures o p.count run (counted run t.1.given.1 e) ∙ rule_passes _ _ refl))
-    (λ t. t.1 ∙ refused_at 0 _ (other run p.what-1 t.0.keys3)))
+    (λ t. t.1 ∙ refused_at 0 _ (other run p.what t.0.keys3)))
     c.in-Opening.branch
 
 -- the frame's rules and the room's, behind the record's
@@ -63,7 +63,7 @@ module _ (c : tie.Joined-what) (o : Receiver) (run : List ℕ) where
   abbrev frame : List Fault
   frame =
       let p = c.before.before.before.args in
-      frame_faults (with_numbers o c.before) p.sound (heard_as run p.what-1)
+      frame_faults (with_numbers o c.before) p.sound (heard_as run p.what)
 
   abbrev room : List Fault
   room = room_faults c.before.before.before.args.reply
@@ -71,11 +71,11 @@ module _ (c : tie.Joined-what) (o : Receiver) (run : List ℕ) where
   numbers : T (numbered frame)
   numbers =
       let p = c.before.before.before.args in
-      frame_numbered (with_numbers o c.before) p.sound (heard_as run p.what-1)
+      frame_numbered (with_numbers o c.before) p.sound (heard_as run p.what)
 
   behind : let p = c.before.before.before.args in
       first (frame ++ room)
-      ≡ first (receive_faults (with_numbers o c.before) p.sound p.reply (heard_as run p.what-1))
+      ≡ first (receive_faults (with_numbers o c.before) p.sound p.reply (heard_as run p.what))
   behind = rule_passes _ _ (sym (c.before.before.in_rule.ensures o) ∙ not-false _ c.before.if-not-in_rule.false)
 
 returns : tie.Need-returns-then-not-in_rule
@@ -89,9 +89,9 @@ returns-2 c o run e =
 
 -- with no rule of the frame broken, the room decides
 last : (c : tie.Else-content-ne-ACCEPTED) (o : Receiver) (run : List ℕ) → let p = c.before.before.before.before.args in
-    p.what-1 ≡ told (heard_as run p.what-1)
+    p.what ≡ told (heard_as run p.what)
     → first (room_faults p.reply)
-    ≡ first (receive_faults (with_numbers o c.before.before) p.sound p.reply (heard_as run p.what-1))
+    ≡ first (receive_faults (with_numbers o c.before.before) p.sound p.reply (heard_as run p.what))
 last c o run e =
     let m = c.before in
     let none : accepted ≡ m.in-Opening.content = omega arith in

@@ -16,7 +16,7 @@ use Rattle.receiver_bytes.proofs.{Record.length_receiver, write_receiver.Stateme
 use Rattle.receiver_bytes.proofs.write_receiver.Tie as tie
 
 -- the lengths of the two arrays
-sizes : (s : tie.Start) → (length s.args.receiver.key-1 ≡ key_bytes) × (length s.args.receiver.pair-1 ≡ pair_bytes)
+sizes : (s : tie.Start) → (length s.args.receiver.key ≡ key_bytes) × (length s.args.receiver.pair ≡ pair_bytes)
 sizes s = (search rules, search rules)
 
 returns : tie.Need-returns-then-d-lt-RECEIVER_BYTES

@@ -14,7 +14,7 @@ use Rattle.record_bytes.proofs.{Fronts.length_front, write_front.Statement.state
 use Rattle.record_bytes.proofs.write_front.Tie as tie
 
 -- the lengths of the two arrays
-sizes : (s : tie.Start) → (length s.args.front.key-1 ≡ key_bytes) × (length s.args.front.pair-1 ≡ pair_bytes)
+sizes : (s : tie.Start) → (length s.args.front.key ≡ key_bytes) × (length s.args.front.pair ≡ pair_bytes)
 sizes s = (search rules, search rules)
 
 returns : tie.Need-returns-then-d-lt-FRONT_BYTES

@@ -17,7 +17,7 @@ returns : tie.Need-returns-then-d-lt-SIX_WORDS_BYTES
 unfolding six_bytes
 returns c =
     let p = c.before.before.args in
-    put_none p.d-1.now 0 (six_bytes p.words)
+    put_none p.d.now 0 (six_bytes p.words)
     (rw (length_row six_widths (six_numbers p.words)) (omega arith))
 
 returns-2 : tie.Need-returns
@@ -37,7 +37,7 @@ returns-2 c =
     ∙ ap (then 24 r.b0) (three.write_word-3.ensures
     ∙ ap (then 16 r.b1) (two.write_word-2.ensures
     ∙ ap (then 8 r.a0) one.write_word.ensures))))
-    ∙ row_written p.d-1.now six_widths (six_numbers r) 0 (omega arith)
+    ∙ row_written p.d.now six_widths (six_numbers r) 0 (omega arith)
 
 pub write_six_words_spec : {M : Type 1} → statement M
 write_six_words_spec =

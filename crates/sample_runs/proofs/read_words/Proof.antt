@@ -16,7 +16,7 @@ use Rattle.sample_runs.proofs.read_words.Tie as tie
 returns : tie.Need-returns-then-output-n
 returns c =
     let p = c.before.before.args in
-    put_none p.output-1.now 0 (words_of p.bytes.now) (rw (length_twos word_of p.bytes.now) (omega arith))
+    put_none p.output.now 0 (words_of p.bytes.now) (rw (length_twos word_of p.bytes.now) (omega arith))
 
 -- all of the words, taken to the front and turned there
 turned_there : (output : List ℤ) (bytes : List ℕ) (n : ℕ) {taken last : List ℤ} {m : ℕ}
@@ -43,7 +43,7 @@ returns-2 c =
     let taken = turn.before.before.before in
     let known = taken.before.before.before in
     let p = known.before.args in
-    turned_there p.output-1.now p.bytes.now (length p.bytes.now / 2) taken.take_words.ensures
+    turned_there p.output.now p.bytes.now (length p.bytes.now / 2) taken.take_words.ensures
     turn.turn.ensures (omega arith) (omega arith) (omega arith) (λ i. omega (arith, known.shared_slice_known-1.given i))
 
 pub read_words_spec : {M : Type 1} → statement M

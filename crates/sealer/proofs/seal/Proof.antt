@@ -257,16 +257,16 @@ returns-2 c =
     let a = s.args in
     let p = lent s in
     let k = known e in
-    let headed = ap (λ (n : ℕ). put a.output-1.now 0
+    let headed = ap (λ (n : ℕ). put a.output.now 0
     (name_section p ++ ((suc n ∷ p.key_number ∷ p.value) ++ row (fours 1) (length p.samples ∷ [])))) k.1 in
     let under : ahead b.before.before.begin-begun.result.cipher ≡ stream (cipher s) (ring s) p =
     ap (λ (r : Ready). r.stream) (b.before.before.begin-begun.ensures ∙ sym (done_if _ _ _ (k.3, (k.1, tt)))) in
-    let three = written (cipher s) (ring s) p a.output-1.now (omega (arith, k)) under ((front b).write-front.ensures
+    let three = written (cipher s) (ring s) p a.output.now (omega (arith, k)) under ((front b).write-front.ensures
     ∙ headed)
     b.write_samples.ensures (omega arith) l.write_loops.ensures in
     ap₂ (λ (n : ℕ) (d : List ℕ). outcome {A = Sealed} (record { refusal = accepted; length = n }) d)
     (omega (arith, length_layout (cipher s) (ring s) p, c.tag_length-tag.ensures))
-    (finished (cipher s) (ring s) p a.output-1.now _ (omega (arith, k)) three (omega (arith, k))
+    (finished (cipher s) (ring s) p a.output.now _ (omega (arith, k)) three (omega (arith, k))
     (w.write_end.ensures
     ∙ ap (put _ (last (cipher s) (ring s) p)) (row_ring a.kind a.ring a.second a.third a.key
     a.value.now _ _ _ _)))

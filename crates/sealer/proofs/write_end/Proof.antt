@@ -16,8 +16,8 @@ use Rattle.sealer.proofs.write_end.Tie as tie
 abbrev under : tie.Start → Kind → List ℕ
 under s kind =
     let p = s.args in
-    put p.output-1.now p.at
-    (tag_row (cipher_of kind) (key_named p.ring p.number) p.value.now p.output-1.now p.start p.stop
+    put p.output.now p.at
+    (tag_row (cipher_of kind) (key_named p.ring p.number) p.value.now p.output.now p.start p.stop
     p.at)
 
 trivium_none : (s : tie.Start) → s.args.output.now ≡ under s Trivium
@@ -53,7 +53,7 @@ write-tag-requires c κs =
     let p = s.args in
     subst
     (λ (k : Kind). (p.number ≤ 3) × (length p.value.now ≡ (cipher_of k).value_bytes) × (p.start ≤ p.stop)
-    × (p.stop ≤ p.at) × (p.at + tag_length (cipher_of k) ≤ length p.output-1.now))
+    × (p.stop ≤ p.at) × (p.at + tag_length (cipher_of k) ≤ length p.output.now))
     t.enum_told-in-Triad-1.given.1 s.requires
 
 pub write_end_spec : {M : Type 1} → statement M

@@ -61,9 +61,9 @@ returns c =
     let start = first.before.before.before.before.before in
     let p = start.args in
     let count : List ℕ = row (fours 1) (p.samples ∷ []) in
-    behind p.output-1.now p.name.now p.value.now count (suc (length p.value.now)) p.key
+    behind p.output.now p.name.now p.value.now count (suc (length p.value.now)) p.key
     (omega (arith, length_row (fours 1) (p.samples ∷ [])))
-    (first.write_number.ensures ∙ ap (put p.output-1.now 0) (one_digit 256 (length p.name.now) (omega arith)))
+    (first.write_number.ensures ∙ ap (put p.output.now 0) (one_digit 256 (length p.name.now) (omega arith)))
     second.copy.ensures
     (third.write_number-2.ensures
     ∙ ap (put _ _) (ap (digits 256 2) (omega arith)

@@ -25,8 +25,8 @@ due : (d : tie.After-tag_due-due) → let p = (start d.before.before.before.befo
     let key = key_named p.t1 p.number in
     d.tag_due_lem.result
     ≡ triad.tag key p.value.now
-    (slice p.output-1.now 0 p.start ++ slice p.output-1.now p.stop (p.at - p.stop))
-    (enciphered (triad.stream key p.value.now) (slice p.output-1.now p.start (p.stop - p.start)))
+    (slice p.output.now 0 p.start ++ slice p.output.now p.stop (p.at - p.stop))
+    (enciphered (triad.stream key p.value.now) (slice p.output.now p.start (p.stop - p.start)))
 due d =
     let b = d.before.before in
     let l = b.before in
@@ -48,7 +48,7 @@ returns c =
     let d = v.before.before in
     let s = start d.before.before.before.before in
     let p = s.args in
-    let out : List ℕ = p.output-1.now in
+    let out : List ℕ = p.output.now in
     w.write_number-2.ensures
     ∙ puts_on out p.at (digits 256 1 8) (digits 256 8 d.tag_due_lem.result) v.write_number.ensures
     (omega (arith, length_digits 256 1 8)) (omega (

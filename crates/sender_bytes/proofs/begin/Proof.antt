@@ -12,7 +12,7 @@ use Rattle.sender_bytes.proofs.begin.Tie as tie
 -- the sender's own answer, for the record that the bytes are
 own : (b : tie.After-begin-begun)
     → let p = b.before.before.before.before.before.args in b.begin-begun.result ≡ beginning
-    (sender_in p.sender-1.now) p.sound.now
+    (sender_in p.sender.now) p.sound.now
 own b =
     let p =
     b.before.before.before.before.before.args in b.begin-begun.ensures

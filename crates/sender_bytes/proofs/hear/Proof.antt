@@ -11,7 +11,7 @@ use Rattle.sender_bytes.proofs.hear.Tie as tie
 
 -- the sender's own answer, for the record that the bytes are
 own : (b : tie.After-hear-heard)
-    → let p = b.before.before.before.before.before.args in b.hear-heard.result ≡ hearing (sender_in p.sender-1.now)
+    → let p = b.before.before.before.before.before.args in b.hear-heard.result ≡ hearing (sender_in p.sender.now)
     p.frame.now
 own b =
     let p =

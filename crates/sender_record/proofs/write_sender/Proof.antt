@@ -16,7 +16,7 @@ use Rattle.sender_record.proofs.{Record.length_sender, write_sender.Statement.st
 use Rattle.sender_record.proofs.write_sender.Tie as tie
 
 -- the lengths of the two arrays
-sizes : (s : tie.Start) → (length s.args.sender.key-1 ≡ key_bytes) × (length s.args.sender.pair-1 ≡ pair_bytes)
+sizes : (s : tie.Start) → (length s.args.sender.key ≡ key_bytes) × (length s.args.sender.pair ≡ pair_bytes)
 sizes s = (search rules, search rules)
 
 returns : tie.Need-returns-then-d-lt-SENDER_BYTES

@@ -58,9 +58,9 @@ returns c =
     let read = r.read_samples-next.ensures
     ∙ ap (λ (b : List ℕ). reading_on k b s.before.blank-samples.result) s.slice.ensures in (
       gone k bytes s.before.blank-samples.result read (omega arith) ∙ ap (λ (n : ℕ). from n k) long,
-      part_read level_from p.output-1.now (p.at / 2) k bytes
+      part_read level_from p.output.now (p.at / 2) k bytes
           (w.write_frames.ensures
-          ∙ ap (put (slice p.output-1.now (p.at / 2) (length p.output-1.now - p.at / 2)) 0)
+          ∙ ap (put (slice p.output.now (p.at / 2) (length p.output.now - p.at / 2)) 0)
           (framed k bytes s.before.blank-samples.result read (omega arith) (p.size / 2 - 0) (omega arith) (omega arith)))
           refl (omega (arith, start.requires.3)),
     )

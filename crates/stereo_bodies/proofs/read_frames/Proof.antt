@@ -35,14 +35,14 @@ loop-holds : tie.Need-loop-at-init invariant-loop decreases-loop
 loop-holds c =
     let p = c.before.before.before.before.args in
     let k : Keystream = ahead p.start in
-    (omega arith, refl, refl, sym (from_zero k), nothing_read level_from k p.body.now p.output-1.now)
+    (omega arith, refl, refl, sym (from_zero k), nothing_read level_from k p.body.now p.output.now)
 
 loop-again : tie.Need-loop-at-preserved invariant-loop decreases-loop
 loop-again c =
     let m = c.before.before in
     let l = m.before.before.before.loop-at in
     let p = m.before.before.before.before.before.before.before.before.args in
-    let more = further level_from (ahead p.start) p.body.now p.output-1.now l.output-1 l.at 1024
+    let more = further level_from (ahead p.start) p.body.now p.output.now l.output l.at 1024
     (omega arith) (omega arith) (omega arith) l.invariant.3 l.invariant.4 m.read_chunk-cipher.ensures.0
     m.read_chunk-cipher.ensures.1 in
     (omega arith, omega arith, m.read_chunk-cipher.auto.1.1.0 ∙ l.invariant.2, more.0, more.1)
@@ -60,10 +60,10 @@ returns-3 c =
     let p = m.before.before.before.before.before.before.before.before.args in
     let k : Keystream = ahead p.start in
     let n : ℕ = length p.body.now in
-    let all = further level_from k p.body.now p.output-1.now l.output-1 l.at (n % 1024) (omega arith)
+    let all = further level_from k p.body.now p.output.now l.output l.at (n % 1024) (omega arith)
     (omega arith) (omega arith) l.invariant.3 l.invariant.4 m.read_chunk.ensures.0 m.read_chunk.ensures.1 in
-    all.1 ∙ all_read level_from k p.body.now p.output-1.now (l.at + n % 1024) (omega arith) (omega arith)
-    ∙ ap (placed p.output-1.now 0)
+    all.1 ∙ all_read level_from k p.body.now p.output.now (l.at + n % 1024) (omega arith) (omega arith)
+    ∙ ap (placed p.output.now 0)
     (sym (floats_twos (enciphered k p.body.now) (ap (λ (m : ℕ). m / 2 % 2) (length_enciphered k p.body.now)
     ∙ omega arith)))
     ∙ done_if _ _ _ (omega arith, (omega arith, tt))

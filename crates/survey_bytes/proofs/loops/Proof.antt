@@ -18,7 +18,7 @@ use Rattle.survey_bytes.proofs.loops.Statement.{statement}
 use Rattle.survey_bytes.proofs.loops.Tie as tie
 
 fault_is : (f : tie.After-fault-no) → let p = f.before.before.before.before.args in
-    f.fault-no.result ≡ first (pack_loops_faults p.file.now (length p.loops-1.now))
+    f.fault-no.result ≡ first (pack_loops_faults p.file.now (length p.loops.now))
 fault_is f =
     let p = f.before.before.before.before.args in
     let told = f.before.survey-told.ensures in
@@ -39,7 +39,7 @@ faultless c =
     let s = c.before.before in
     let p = s.before.before.before.args in
     let right =
-    both_right p.file.now s.survey-told.ensures (loop_numbers p.file.now) (length p.loops-1.now)
+    both_right p.file.now s.survey-told.ensures (loop_numbers p.file.now) (length p.loops.now)
     (sym (fault_is c.before) ∙ c.if-no-ne-ACCEPTED.false) in
     let all = all_told p.file.now s.survey-told.ensures right.0 in
     record {
@@ -75,8 +75,8 @@ returns-2 c =
     let size = many_read 4 n file (loops_place (cipher_in file) file) in
     wrote_so
     (r.read_numbers.ensures
-    ∙ (λ i. put p.loops-1.now 0 (numbers_at (fours (2 * all.counted i)) file (all.found i)))
-    ∙ put_placed p.loops-1.now 0 (numbers_at (fours n) file (loops_place (cipher_in file) file)) (omega arith))
+    ∙ (λ i. put p.loops.now 0 (numbers_at (fours (2 * all.counted i)) file (all.found i)))
+    ∙ put_placed p.loops.now 0 (numbers_at (fours n) file (loops_place (cipher_in file) file)) (omega arith))
     (omega (arith, all))
     ∙ settled_done _ _ _ (sym e.if-no-ne-ACCEPTED.false ∙ fault_is e.before)
 

@@ -14,7 +14,7 @@ use Rattle.survey_bytes.proofs.survey.Statement.{statement}
 use Rattle.survey_bytes.proofs.survey.Tie as tie
 
 fault_is : (f : tie.After-fault-no) → let p = f.before.before.before.before.args in
-    f.fault-no.result ≡ first (pack_survey_faults p.file.now (length p.answer-1.now))
+    f.fault-no.result ≡ first (pack_survey_faults p.file.now (length p.answer.now))
 fault_is f = f.fault-no.ensures f.before.before.before.before.args.file.now f.before.survey-told.ensures
 
 returns : tie.Need-returns-then-no-ne-ACCEPTED
@@ -29,10 +29,10 @@ returns-2 c =
     let s = f.before in
     let p = s.before.before.before.args in
     let z = sym (fault_is f) ∙ t.before.before.if-no-ne-ACCEPTED.false in
-    let right = both_right p.file.now s.survey-told.ensures numbers_room (length p.answer-1.now) z in
+    let right = both_right p.file.now s.survey-told.ensures numbers_room (length p.answer.now) z in
     ap (λ (l : List ℕ). outcome accepted l)
-    (t.tell.ensures ∙ put_placed p.answer-1.now 0 (answer_numbers s.survey-told.result) right.1)
-    ∙ ap (λ (o : Opened). outcome accepted (placed p.answer-1.now 0 (answer_numbers o)))
+    (t.tell.ensures ∙ put_placed p.answer.now 0 (answer_numbers s.survey-told.result) right.1)
+    ∙ ap (λ (o : Opened). outcome accepted (placed p.answer.now 0 (answer_numbers o)))
     (all_told p.file.now s.survey-told.ensures right.0)
     ∙ settled_done _ _ _ (sym z)
 

@@ -102,7 +102,7 @@ returns-3 c =
     t.new_tag-made.ensures z e.if-buffer-lt-TAG_BYTES.false
     (λ _. tag_long p.key.now p.value.now p.associated.now p.message.now)
     (w.write_number.ensures
-    ∙ ap (put p.buffer-1.now 0)
+    ∙ ap (put p.buffer.now 0)
     (ap (digits 256 8) tag ∙ tag_bytes_lem p.key.now p.value.now p.associated.now p.message.now))
 
 pub tag_spec : {M : Type 1} → statement M

@@ -32,8 +32,8 @@ loop-again c =
     let p = known.before.args in
     let b : Below 256 p.bytes.now = λ i. omega (arith, known.shared_slice_known-1.given i) in (
       omega arith,
-      absorbs_on p.bytes.now (state p.registers) (state l.moved-1) l.at 8 (omega arith) b l.invariant.1
-          (ran_state l.moved-1 _ ran.run-ran.ensures) (omega arith) (omega arith)
+      absorbs_on p.bytes.now (state p.registers) (state l.moved) l.at 8 (omega arith) b l.invariant.1
+          (ran_state l.moved _ ran.run-ran.ensures) (omega arith) (omega arith)
           (read.eight_from-message.ensures ∙ low_eight p.bytes.now l.at (omega arith) b),
     )
 
@@ -48,9 +48,9 @@ returns c =
     let bytes : List ℕ = p.bytes.now in
     let few : ℕ = length bytes - l.at in
     let all : length bytes ≤ l.at + few = omega arith in
-    short_next l.moved-1 _ _ last.short_stride-ran.ensures (omega arith)
+    short_next l.moved _ _ last.short_stride-ran.ensures (omega arith)
     ∙ ap packed
-    (absorbs_on bytes (state p.registers) (state l.moved-1) l.at few (omega arith)
+    (absorbs_on bytes (state p.registers) (state l.moved) l.at few (omega arith)
     (λ i. omega (arith, known.shared_slice_known-1.given i)) l.invariant.1 refl (omega arith)
     (omega arith) read.low_bytes-message.ensures
     ∙ ap (λ (xs : List ℕ). absorbed xs (state p.registers)) (take_all (l.at + few) bytes all))

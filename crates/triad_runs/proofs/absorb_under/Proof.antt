@@ -38,14 +38,14 @@ loop-again c =
     let p = known.before.args in
     let b : Below 256 p.bytes.now = λ i. omega (arith, known.shared_slice_known-1.given i) in (
       omega arith,
-      absorbs_under p.bytes.now (ahead p.cipher) (ahead l.stream-1) (state p.registers) (state l.moved-1)
-          l.at 8 key.run-key.result-1.word (omega arith) (omega arith) b l.invariant.1
-          (ran_state l.moved-1 _ ran.run-ran.ensures) (omega arith) (omega arith)
+      absorbs_under p.bytes.now (ahead p.cipher) (ahead l.stream) (state p.registers) (state l.moved)
+          l.at 8 key.run-key.result.word (omega arith) (omega arith) b l.invariant.1
+          (ran_state l.moved _ ran.run-ran.ensures) (omega arith) (omega arith)
           (read.eight_from-read.ensures ∙ low_eight p.bytes.now l.at (omega arith) b)
           (gone (state p.cipher) l.at l.invariant.2)
-          (word_gives (state l.stream-1) (ran_word l.stream-1 _ key.run-key.ensures) (omega arith)),
-      gone_on (state p.cipher) (state l.stream-1) l.at 8 l.invariant.2
-          (ran_state l.stream-1 _ key.run-key.ensures) (omega arith) (omega arith),
+          (word_gives (state l.stream) (ran_word l.stream _ key.run-key.ensures) (omega arith)),
+      gone_on (state p.cipher) (state l.stream) l.at 8 l.invariant.2
+          (ran_state l.stream _ key.run-key.ensures) (omega arith) (omega arith),
     )
 
 returns : tie.Need-returns invariant-loop decreases-loop
@@ -60,13 +60,13 @@ returns c =
     let bytes : List ℕ = p.bytes.now in
     let few : ℕ = (length bytes - l.at) % 8 in
     let all : length bytes ≤ l.at + few = omega arith in
-    short_next l.moved-1 _ _ last.short_stride-ran.ensures (omega arith)
+    short_next l.moved _ _ last.short_stride-ran.ensures (omega arith)
     ∙ ap packed
-    (absorbs_under bytes (ahead p.cipher) (ahead l.stream-1) (state p.registers) (state l.moved-1) l.at few
-    key.run-key-2.result-1.word (omega arith) (omega arith) (λ i. omega (arith, known.shared_slice_known-1.given i))
+    (absorbs_under bytes (ahead p.cipher) (ahead l.stream) (state p.registers) (state l.moved) l.at few
+    key.run-key-2.result.word (omega arith) (omega arith) (λ i. omega (arith, known.shared_slice_known-1.given i))
     l.invariant.1 refl (omega arith) (omega arith) read.low_bytes-read.ensures
     (gone (state p.cipher) l.at l.invariant.2)
-    (word_gives (state l.stream-1) (ran_word l.stream-1 _ key.run-key-2.ensures) (omega arith))
+    (word_gives (state l.stream) (ran_word l.stream _ key.run-key-2.ensures) (omega arith))
     ∙ ap (λ (xs : List ℕ). absorbed (enciphered (ahead p.cipher) xs) (state p.registers))
     (take_all (l.at + few) bytes all))
 

@@ -36,15 +36,15 @@ loop-again c =
     let ran = swap.before.before in
     let l = ran.before.before.loop-at in
     let p = ran.before.before.before.before.args in
-    let here : State = state l.moved-1 in
+    let here : State = state l.moved in
     let gives =
-    swap_gives ran.run-ran.result-1.word (ahead l.moved-1) swap.swapped.ensures
-    (word_gives here (ran_word l.moved-1 _ ran.run-ran.ensures) (omega arith)) in (
+    swap_gives ran.run-ran.result.word (ahead l.moved) swap.swapped.ensures
+    (word_gives here (ran_word l.moved _ ran.run-ran.ensures) (omega arith)) in (
       omega arith,
       covered.cover_at.auto.0 ∙ l.invariant.1,
-      gone_on (state p.registers) here l.at 8 l.invariant.2 (ran_state l.moved-1 _ ran.run-ran.ensures)
+      gone_on (state p.registers) here l.at 8 l.invariant.2 (ran_state l.moved _ ran.run-ran.ensures)
           (omega arith) (omega arith),
-      covers_on (ahead p.registers) (ahead l.moved-1) p.bytes-1.now l.bytes-1 l.at 8 _ l.invariant.3
+      covers_on (ahead p.registers) (ahead l.moved) p.bytes.now l.bytes l.at 8 _ l.invariant.3
           (omega arith) (gone (state p.registers) l.at l.invariant.2) gives covered.cover_at.ensures,
     )
 
@@ -62,23 +62,23 @@ returns c =
     let ran = swap.before in
     let l = ran.before.before.loop-at in
     let p = ran.before.before.before.before.args in
-    let here : State = state l.moved-1 in
-    let bytes : List ℕ = p.bytes-1.now in
+    let here : State = state l.moved in
+    let bytes : List ℕ = p.bytes.now in
     let few : ℕ = length bytes - l.at in
     let all : l.at + few ≡ length bytes = omega arith in
     let gives =
-    part_gives few swap.swapped-swapped.result-1 (ahead l.moved-1) (omega arith) (omega arith)
-    (swap_gives ran.short_stride-ran.result-1.word (ahead l.moved-1) swap.swapped-swapped.ensures
-    (word_gives here (short_word l.moved-1 _ _ ran.short_stride-ran.ensures) (omega arith)))
+    part_gives few swap.swapped-swapped.result (ahead l.moved) (omega arith) (omega arith)
+    (swap_gives ran.short_stride-ran.result.word (ahead l.moved) swap.swapped-swapped.ensures
+    (word_gives here (short_word l.moved _ _ ran.short_stride-ran.ensures) (omega arith)))
     (omega arith) down.shifted.ensures in
     let next =
-    short_next l.moved-1 _ _ ran.short_stride-ran.ensures (omega arith)
+    short_next l.moved _ _ ran.short_stride-ran.ensures (omega arith)
     ∙ ap packed
     (gone_on (state p.registers) here l.at few l.invariant.2 refl (omega arith) (omega arith)
     ∙ ap (λ (n : ℕ). updates (zeros (8 * n)) (state p.registers)) all) in
     let done =
     covers_all (ahead p.registers) bytes
-    (covers_on (ahead p.registers) (ahead l.moved-1) bytes l.bytes-1 l.at few _ l.invariant.3 (omega arith)
+    (covers_on (ahead p.registers) (ahead l.moved) bytes l.bytes l.at few _ l.invariant.3 (omega arith)
     (gone (state p.registers) l.at l.invariant.2) gives covered.cover_at-2.ensures)
     all in
     λ i. outcome (next i) (done i)

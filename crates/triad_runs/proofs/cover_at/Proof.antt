@@ -10,7 +10,7 @@ returns c =
     let read = written.before.before in
     let known = read.before.before in
     let p = known.before.args in
-    covers_at p.bytes-1.now p.at p.n p.stream (omega arith) (omega arith)
+    covers_at p.bytes.now p.at p.n p.stream (omega arith) (omega arith)
     (λ i. omega (arith, known.slice_known-1.given i)) read.number_at-read.ensures written.write_number.ensures
     (omega arith)
 

@@ -19,10 +19,10 @@ loop-again : tie.Need-loop-left-preserved invariant-loop decreases-loop
 loop-again c =
     let l = c.before.before.before.loop-left in
     let ran = c.before.stride-ran in
-    let old : Registers = l.running-1.registers in
+    let old : Registers = l.running.registers in
     let rest : ℕ = 8 * (l.left - 1) in
     let one_more : 8 + rest ≡ 8 * l.left = omega arith in
-    skip_from old ran.result.next.registers 8 rest (ran_state l.running-1 ran.result ran.ensures)
+    skip_from old ran.result.next.registers 8 rest (ran_state l.running ran.result ran.ensures)
     ∙ ap (skipping old) one_more
     ∙ l.invariant
 
@@ -32,11 +32,11 @@ returns c =
     let l = c.before.before.loop-left in
     let begun = c.before.before.before.of-running in
     let p = c.before.before.before.before.args in
-    let s : State = state l.running-1.registers in
+    let s : State = state l.running.registers in
     let none : 0 ≡ 8 * l.left = omega arith in
     c.stop.ensures
     ∙ ap packed (sym (steps_none s))
-    ∙ ap (skipping l.running-1.registers) none
+    ∙ ap (skipping l.running.registers) none
     ∙ l.invariant
     ∙ ap (λ (t : State). packed (steps (8 * (8 * p.strides)) t)) (run_begun p.registers begun.result begun.ensures)
 

@@ -42,16 +42,16 @@ loop-again c =
     let l = cover.before.before.before.before.before.loop-at in
     let p = cover.before.before.before.before.before.before.before.before.args in
     let done =
-    stretch_more p.self p.bytes-1.now l.at size (l.at + size - l.at) {m = l.at + size} l.invariant.2
+    stretch_more p.self p.bytes.now l.at size (l.at + size - l.at) {m = l.at + size} l.invariant.2
     l.invariant.3 cover.cover_stretch-registers.ensures (omega arith) (omega arith) (omega arith) in
-    let long = ap length done.1 ∙ length_covered p.self p.bytes-1.now (l.at + size) (omega arith) in
+    let long = ap length done.1 ∙ length_covered p.self p.bytes.now (l.at + size) (omega arith) in
     (omega arith, long, done.0, done.1)
 
 returns : tie.Need-returns invariant-loop decreases-loop
 returns c =
     let l = c.before.loop-at in
     let p = c.before.before.before.before.args in
-    cover_done p.self p.bytes-1.now l.invariant.2 l.invariant.3 (omega arith)
+    cover_done p.self p.bytes.now l.invariant.2 l.invariant.3 (omega arith)
 
 pub cover_spec : {M : Type 1} → statement M
 cover_spec =

@@ -29,7 +29,7 @@ loop-again c =
     let l = c.before.before.before.before.before.loop-i in (
       omega arith,
       c.slide-next.ensures.0,
-      blank_there l.w-1 _ (256 - l.i) (287 - l.i) l.a0 l.a1 _ _ (warm_up - l.i) l.counter (omega arith)
+      blank_there l.w _ (256 - l.i) (287 - l.i) l.a0 l.a1 _ _ (warm_up - l.i) l.counter (omega arith)
           c.slide-next.ensures.1 (omega arith) (omega arith) (omega arith) (omega arith) (omega arith) (omega arith)
           (omega arith)
           c.before.before.before.twice-counter.ensures

@@ -30,17 +30,17 @@ module _ (c : tie.After-read-told) where
 -- no rule is broken
 right : (c : tie.Else-refusal-ne-ACCEPTED) (run : List ℕ) → let t = c.before.before.read-told.result in
     let p = c.before.before.before.before.before.before.args in t ≡ told (heard_as run t)
-    → AllRight (receive_faults p.self (length p.sound-1.now) (length p.answer-1.now) (heard_as run t))
+    → AllRight (receive_faults p.self (length p.sound.now) (length p.answer.now) (heard_as run t))
 right c run e =
     let p = c.before.before.before.before.before.before.args in
-    none_broken p.self (length p.sound-1.now) (length p.answer-1.now)
+    none_broken p.self (length p.sound.now) (length p.answer.now)
     (heard_as run c.before.before.read-told.result) (sym (c.before.fault-refusal.ensures p.self run e) ∙ c.if-refusal-ne-ACCEPTED.false)
 
 returns : tie.Need-returns-then-refusal-ne-ACCEPTED
 returns c =
     let r = c.before.before in
     let p = r.before.before.before.before.args in
-    refused_so_lem trivium p.self p.sound-1.now p.answer-1.now p.frame.now _
+    refused_so_lem trivium p.self p.sound.now p.answer.now p.frame.now _
     (told_back (message r) r.read-told.ensures) _ c.if-refusal-ne-ACCEPTED.true
     (c.before.fault-refusal.ensures p.self (drop 8 (message r)) (fits r))
 
@@ -61,9 +61,9 @@ add-length c = omega (arith, c.before.before.before.before.before.before.before.
 after : (c : tie.Joined-step) → let s = c.before.before.before.before.before.before in
     let p = s.before.before.before.before.before.before.before.args in
     let r = p.self in
-    c.if-step.sound-1 ≡ cond s.on_frame-step.result.in_turn
-    (put p.sound-1.now (place r.count)
-    (covered trivium r.key r.pair r.session r.count (drop 8 p.frame.now))) p.sound-1.now
+    c.if-step.sound ≡ cond s.on_frame-step.result.in_turn
+    (put p.sound.now (place r.count)
+    (covered trivium r.key r.pair r.session r.count (drop 8 p.frame.now))) p.sound.now
 after c =
     ⊎_elim (λ w. rw w.0.taken (w.5 ∙ w.2.ensures)) (λ w. rw w.0.left w.1) c.if-step.branch
 
@@ -80,18 +80,18 @@ returns-2 c =
     let run : List ℕ = drop 8 (message r) in
     let t = r.read-told.result in
     let all = right s.before run (fits r) in
-    let room = (right_both (content_faults p.self (length p.sound-1.now) (heard_as run t)) _ all.1.1).1.0 in
+    let room = (right_both (content_faults p.self (length p.sound.now) (heard_as run t)) _ all.1.1).1.0 in
     let narrow = s.on_frame-step.ensures.0 in
-    let says = s.on_frame-step.ensures.1 p.self run p.sound-1.now (fits r) refl in
+    let says = s.on_frame-step.ensures.1 p.self run p.sound.now (fits r) refl in
     let n = s.on_frame-step.result in
     let long = length_short n.kind n.named n.width n.count in
-    received_so trivium p.self p.sound-1.now p.answer-1.now p.frame.now (heard_as run t)
+    received_so trivium p.self p.sound.now p.answer.now p.frame.now (heard_as run t)
     (told_back (message r) r.read-told.ensures) all (sym says.0) (sym (ap length says.2 ∙ long))
     (after c.before ∙ sym says.1)
-    (with_number (λ (held : ℕ). put p.answer-1.now 0 (short n.kind n.named n.width held)) n.count
+    (with_number (λ (held : ℕ). put p.answer.now 0 (short n.kind n.named n.width held)) n.count
     written.write_short.ensures (omega arith)
     ∙ put_placed _ 0 _ (omega arith)
-    ∙ ap (placed p.answer-1.now 0) (sym says.2))
+    ∙ ap (placed p.answer.now 0) (sym says.2))
 
 pub hear_spec : {M : Type 1} → statement M
 hear_spec =

@@ -29,7 +29,7 @@ returns : tie.Need-returns
 returns c =
     let call = c.before.before in
     let p = c.before.before.before.before.before.before.before.before.before.before.before.args in
-    in_place p.sound-1.now p.self call.cover.ensures (omega arith)
+    in_place p.sound.now p.self call.cover.ensures (omega arith)
     (call.before.before.before.before.slice-run.ensures ∙ rest p.frame.now)
 
 pub take_spec : {M : Type 1} → statement M

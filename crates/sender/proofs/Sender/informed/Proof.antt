@@ -55,7 +55,7 @@ other s run (the_told.Holds session held) k = absurd (miss (0 ∷ 1 ∷ 2 ∷ []
 other s run (the_told.TooLong session) k = absurd (miss (0 ∷ 1 ∷ 2 ∷ []) 4 tt k)
 
 returns-5 : tie.Need-returns-in_default
-returns-5 c run = let p = c.before.before.args in other p.self run p.what-1 c.in-Holds.keys3
+returns-5 c run = let p = c.before.before.args in other p.self run p.what c.in-Holds.keys3
 
 pub informed_spec : {M : Type 1} → statement M
 informed_spec =

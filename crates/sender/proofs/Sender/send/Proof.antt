@@ -26,13 +26,13 @@ reached false n e = e refl
 
 fault_is : (c : tie.After-transfer_fault-refusal) → let p = c.before.before.before.before.before.before.args in
     let due = due_in trivium p.self p.sound.now p.self.phase in
-    c.transfer_fault-refusal.result ≡ first (send_faults p.self p.sound.now (length due) (length p.frame-1.now))
+    c.transfer_fault-refusal.result ≡ first (send_faults p.self p.sound.now (length due) (length p.frame.now))
 unfolding first told
 fault_is c =
     let p = c.before.before.before.before.before.before.args in
     let stage = c.before.before.before.stage-stage.ensures in
     let n : ℕ = length p.sound.now in
-    let room : ℕ = length p.frame-1.now in
+    let room : ℕ = length p.frame.now in
     let rest =
     reached (not (eqb n p.self.length)) wrong_sound
     (λ same. ap (λ (due : ℕ). cond (ltb room due) no_room accepted)
@@ -43,7 +43,7 @@ fault_is c =
 -- no rule is broken
 right : (c : tie.Else-refusal-ne-ACCEPTED) → let p = c.before.before.before.before.before.before.before.args in
     let due = due_in trivium p.self p.sound.now p.self.phase in
-    AllRight (send_faults p.self p.sound.now (length due) (length p.frame-1.now))
+    AllRight (send_faults p.self p.sound.now (length due) (length p.frame.now))
 right c = none_wrong _ tt (sym (fault_is c.before) ∙ c.if-refusal-ne-ACCEPTED.false)
 
 returns : tie.Need-returns-then-refusal-ne-ACCEPTED
@@ -67,10 +67,10 @@ returns-2 c =
     let s = p.self in
     let all = right none.before in
     let phase = opening_if s.phase all.1.0 (sym stage.stage-stage.ensures.2 ∙ none.if-new_count-eq0.true) in
-    sent_so trivium s p.sound.now p.frame-1.now all (stage.stage-stage.ensures.3 p.sound.now all.1.1.0)
-    (with_number (λ (n : ℕ). put p.frame-1.now 0 (short 1 s.session 4 n)) s.length call.write_short.ensures
+    sent_so trivium s p.sound.now p.frame.now all (stage.stage-stage.ensures.3 p.sound.now all.1.1.0)
+    (with_number (λ (n : ℕ). put p.frame.now 0 (short 1 s.session 4 n)) s.length call.write_short.ensures
     (omega arith)
-    ∙ ap (put p.frame-1.now 0)
+    ∙ ap (put p.frame.now 0)
     (short_opening s.session s.length ∙ ap (due_in trivium s p.sound.now) (sym phase)))
 
 returns-3 : tie.Need-returns-else-new_count-eq0
@@ -83,10 +83,10 @@ returns-3 c =
     let s = p.self in
     let all = right other.before in
     let phase = sending_if s.phase all.1.0 (omega (arith, stage.stage-stage.ensures.2)) in
-    sent_so trivium s p.sound.now p.frame-1.now all (stage.stage-stage.ensures.3 p.sound.now all.1.1.0)
-    (with_number (λ (n : ℕ). put p.frame-1.now 0 (bytes (block_frame trivium s p.sound.now n)))
+    sent_so trivium s p.sound.now p.frame.now all (stage.stage-stage.ensures.3 p.sound.now all.1.1.0)
+    (with_number (λ (n : ℕ). put p.frame.now 0 (bytes (block_frame trivium s p.sound.now n)))
     (news_count s.phase - 1) call.write_block.ensures (omega (arith, stage.stage-stage.ensures.2))
-    ∙ ap (λ (p' : Phase). put p.frame-1.now 0 (due_in trivium s p.sound.now p')) (sym phase))
+    ∙ ap (λ (p' : Phase). put p.frame.now 0 (due_in trivium s p.sound.now p')) (sym phase))
 
 pub send_spec : {M : Type 1} → statement M
 send_spec =

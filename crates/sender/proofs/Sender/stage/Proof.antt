@@ -69,7 +69,7 @@ returns-3 c =
 
 returns-4 : tie.Need-returns-in_default
 unfolding Says sender_in_rule
-returns-4 c = ended c.before.args.self _ c.before.args.self.phase-1 c.in-Idle.keys4 refl
+returns-4 c = ended c.before.args.self _ c.before.args.self.phase c.in-Idle.keys4 refl
 
 pub stage_spec : {M : Type 1} → statement M
 stage_spec =

@@ -22,7 +22,7 @@ loop-again c =
     let l = c.before.before.before.loop-left in
     let begun = c.before.before.before.before.before.run-begun.result.next in (
       omega arith,
-      idle_on (state begun) (state l.registers-1) l.invariant.1 (ran_state l.registers-1 _ c.before.run-ran.ensures)
+      idle_on (state begun) (state l.registers) l.invariant.1 (ran_state l.registers _ c.before.run-ran.ensures)
           (omega arith) (omega arith) (omega arith),
     )
 

@@ -13,7 +13,7 @@ unfolding newest state
 cast c =
     let new = c.before.before.before.before in
     let p = new.before.args in
-    let bit : new.step.result.z ≡ _ = λ i. (new.step.ensures i).z in
+    let bit : new.step-new.result.z ≡ _ = λ i. (new.step-new.ensures i).z in
     let small = out_below (p.message % 2) (state p.self) in
     record { fits = omega arith }
 
@@ -29,14 +29,14 @@ returns c =
     let r = p.self in
     let there =
     (λ i.
-    of_words (first.shifted.ensures i) new.step.result.a (second.shifted-2.ensures i) new.step.result.b
-    (third.shifted-3.ensures i) new.step.result.c)
+    of_words (first.shifted.ensures i) new.step-new.result.a (second.shifted-2.ensures i) new.step-new.result.b
+    (third.shifted-3.ensures i) new.step-new.result.c)
     ∙ stepped r.a1 r.a0 r.b1 r.b0 r.c1 r.c0 p.message (omega (arith, start.well-formed))
     (omega (arith, start.well-formed)) (omega (arith, start.well-formed)) (omega (arith, start.well-formed)) (omega (arith, start.well-formed))
-    (omega (arith, start.well-formed)) new.step.ensures in
+    (omega (arith, start.well-formed)) new.step-new.ensures in
     λ i.
     record {
-      bit = ((λ j. (new.step.ensures j).z) ∙ one_out _ (state r)) i;
+      bit = ((λ j. (new.step-new.ensures j).z) ∙ one_out _ (state r)) i;
       next = (c.cleared.ensures ∙ ap packed there) i;
     }
 

@@ -45,7 +45,7 @@ loop-again c =
       omega arith,
       call.auto.1.0 ∙ l.invariant.1,
       skips_on old new 16 rest call.ensures.0 refl (omega arith) ∙ ap (skipping old) all ∙ l.invariant.2,
-      further (state old) (state new) l.bytes-1 _ l.at 16 (omega arith) call.ensures.0 call.ensures.1
+      further (state old) (state new) l.bytes _ l.at 16 (omega arith) call.ensures.0 call.ensures.1
           (omega arith)
           ∙ l.invariant.3,
     )
@@ -61,14 +61,14 @@ returns c =
     let l = m.before.before.before in
     let begun = l.before.of-running in
     let p = l.before.before.before.args in
-    let bytes : List ℕ = p.bytes-1.now in
+    let bytes : List ℕ = p.bytes.now in
     let from : begun.result.registers ≡ p.self = ap (λ (x : Running). x.registers) begun.ensures in
     let next =
     call.ensures.0
-    ∙ ap (λ (n : ℕ). skipping l.loop-at.running.registers (n - l.loop-at.at)) l.loop-at.invariant.1
-    ∙ l.loop-at.invariant.2 ∙ ap (λ (r : Registers). skipping r (length bytes)) from in
+    ∙ ap (λ (n : ℕ). skipping l.loop.running.registers (n - l.loop.at)) l.loop.invariant.1
+    ∙ l.loop.invariant.2 ∙ ap (λ (r : Registers). skipping r (length bytes)) from in
     let last =
-    call.ensures.1 ∙ l.loop-at.invariant.3 ∙ ap (λ (r : Registers). enciphered (keystream (state r)) bytes) from in
+    call.ensures.1 ∙ l.loop.invariant.3 ∙ ap (λ (r : Registers). enciphered (keystream (state r)) bytes) from in
     λ i. outcome (next i) (last i)
 
 pub cover_spec : {M : Type 1} → statement M

@@ -19,7 +19,7 @@ returns-2 c =
     let cover = c.before.before in
     let copy = cover.before.before.before.before in
     let p = copy.before.before.before.before.before.args in
-    in_front answered ahead skipping p.self p.input.now p.output-1.now _ (length p.input.now - 0)
+    in_front answered ahead skipping p.self p.input.now p.output.now _ (length p.input.now - 0)
     copy.copy.ensures (omega arith) (omega arith) cover.cover-next.ensures
 
 pub encipher_spec : {M : Type 1} → statement M

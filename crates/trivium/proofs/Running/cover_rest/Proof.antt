@@ -36,9 +36,9 @@ unfolding stopping
 loop-holds c =
     let p = c.before.before.args in
     let record₀ : Registers = c.stop-registers.result in
-    let from : ℕ → List ℕ = covered (state record₀) p.bytes-1.now in
+    let from : ℕ → List ℕ = covered (state record₀) p.bytes.now in
     let same = sym (run_stopped p.self record₀ c.stop-registers.ensures) in
-    let below : Below 256 p.bytes-1.now = λ i. omega (arith, c.before.slice_known-1.given i) in
+    let below : Below 256 p.bytes.now = λ i. omega (arith, c.before.slice_known-1.given i) in
     (omega arith, refl, below, c.stop-registers.ensures ∙ ap packed same, refl, ap from (omega arith))
 
 loop-again : tie.Need-loop-left-preserved invariant-loop decreases-loop
@@ -50,10 +50,10 @@ loop-again c =
     let took = strode.before in
     let l = took.before.before.loop-left in
     let p = took.before.before.before.before.before.args in
-    let old : Registers = l.registers-1 in
+    let old : Registers = l.registers in
     let mid : Registers = strode.short_stride-strode.result.next in
     let n : ℕ = took.at_most_eight-n.result in
-    let end : ℕ = length p.bytes-1.now in
+    let end : ℕ = length p.bytes.now in
     let place : ℕ = end - l.left in
     let rest : ℕ = l.left - n in
     let few : n ≤ 8 = omega (arith, took.at_most_eight-n.ensures) in
@@ -61,17 +61,17 @@ loop-again c =
     let on : end - rest ≡ place + n = omega (arith, took.at_most_eight-n.ensures) in
     let went = strode.short_stride-strode.ensures ∙ few_strode old n (omega arith) few in
     let gone : state mid ≡ steps (8 * n) (state old) = (λ i. state (went i).next) ∙ state_skip old n in
-    let there : place + n ≤ length l.bytes-1 = omega arith in
+    let there : place + n ≤ length l.bytes = omega arith in
     let written =
-    from_place l.bytes-1 place n _ done.cover.ensures (omega arith)
-    ∙ ap (λ (w : ℕ). put l.bytes-1 place (under l.bytes-1 place n w)) (λ i. (went i).word)
-    ∙ ap (put l.bytes-1 place) (run_read l.bytes-1 place n (state old) few there l.invariant.2) in (
+    from_place l.bytes place n _ done.cover.ensures (omega arith)
+    ∙ ap (λ (w : ℕ). put l.bytes place (under l.bytes place n w)) (λ i. (went i).word)
+    ∙ ap (put l.bytes place) (run_read l.bytes place n (state old) few there l.invariant.2) in (
       omega (arith, took.at_most_eight-n.ensures),
       done.cover.auto.0 ∙ l.invariant.1,
       (λ i. omega (arith, c.before.slice_known-in-loop-left-1.given i)),
       (λ i. (went i).next) ∙ ap packed (sym gone),
       skip_from old mid n rest gone ∙ ap (skipping old) all ∙ l.invariant.4,
-      further (state old) (state mid) l.bytes-1 done.cover.new.0 place n there gone written on ∙ l.invariant.5,
+      further (state old) (state mid) l.bytes done.cover.new.0 place n there gone written on ∙ l.invariant.5,
     )
 
 returns : tie.Need-returns invariant-loop decreases-loop
@@ -80,18 +80,18 @@ returns c =
     let l = c.before.loop-left in
     let stopped = c.before.before.stop-registers in
     let p = c.before.before.before.before.args in
-    let s : State = state l.registers-1 in
-    let bytes : List ℕ = p.bytes-1.now in
+    let s : State = state l.registers in
+    let bytes : List ℕ = p.bytes.now in
     let end : ℕ = length bytes in
     let none : 0 ≡ l.left = omega arith in
     let place : ℕ = end - l.left in
-    let all : place ≡ length l.bytes-1 = omega arith in
-    let behind = ap (λ (n : ℕ). drop n l.bytes-1) all ∙ drop-length l.bytes-1 in
+    let all : place ≡ length l.bytes = omega arith in
+    let behind = ap (λ (n : ℕ). drop n l.bytes) all ∙ drop-length l.bytes in
     let begun = run_stopped p.self stopped.result stopped.ensures in (
       l.invariant.3 ∙ ap packed (sym (steps_none s) ∙ ap (λ (n : ℕ). steps (8 * n) s) none) ∙ l.invariant.4
           ∙ ap (λ (t : State). packed (steps (8 * (end - p.at)) t)) begun,
-      put_nothing l.bytes-1 place
-          ∙ ap (λ (more : List ℕ). put l.bytes-1 place (enciphered (keystream s) more)) (sym behind)
+      put_nothing l.bytes place
+          ∙ ap (λ (more : List ℕ). put l.bytes place (enciphered (keystream s) more)) (sym behind)
           ∙ l.invariant.5
           ∙ ap (λ (t : State). covered t bytes p.at) begun,
     )
