@@ -9,10 +9,10 @@ use Rattle.octets.proofs.slice.Tie as tie
 
 returns : tie.Need-returns-then-count-eq0
 returns c =
-    let p = c.before.before.before.before.args in
-    let none : 0 ≡ c.before.before.there-count.result = omega arith in
+    let p = c.before.before.before.args in
+    let none : 0 ≡ c.before.there-count.result = omega arith in
     ap (slice p.s.now p.at) none
-    ∙ take_there p.s.now p.at p.n c.before.before.there-count.result c.before.before.there-count.ensures
+    ∙ take_there p.s.now p.at p.n c.before.there-count.result c.before.there-count.ensures
 
 returns-2 : tie.Need-returns
 returns-2 c =
