@@ -2,7 +2,7 @@
 use mathlib.Core.{List.List, Path.ap, Path.◌∙◌}
 use Prim.Native.Nat.{ℕ}
 use native.Mathlib.Omega.{arith}
-use borrow.Author.{Needs.needs, Tests.not-true, Tests.not-false}
+use borrow.Author.{Rules.rules, Tests.not-true, Tests.not-false}
 use Rattle.octets.proofs.Buffers.{put_placed}
 use Rattle.refusals.specs.{Numbers.accepted, Outcome.outcome}
 use Rattle.refusals.proofs.Settled.{left_at, done_if}
@@ -10,10 +10,10 @@ use Rattle.link_status.proofs.tell_status.Statement.{statement}
 use Rattle.link_status.proofs.tell_status.Tie as tie
 
 returns : tie.Need-returns-then-not-in_rule
-returns c = left_at _ _ _ 0 tt (search (needs, not-true))
+returns c = left_at _ _ _ 0 tt (search (rules, not-true))
 
 returns-2 : tie.Need-returns-then-answer-lt-NUMBERS
-returns-2 c = left_at _ _ _ 1 tt (search (needs, not-false), omega arith)
+returns-2 c = left_at _ _ _ 1 tt (search (rules, not-false), omega arith)
 
 returns-3 : tie.Need-returns
 returns-3 c =
@@ -26,4 +26,4 @@ returns-3 c =
 pub tell_status_spec : {M : Type 1} → statement M
 tell_status_spec =
     tie.close
-    (tie.spec returns returns-2 (λ c. search needs) (λ c κs. search needs) (λ c. search needs) returns-3)
+    (tie.spec returns returns-2 (λ c. search rules) (λ c κs. search rules) (λ c. search rules) returns-3)

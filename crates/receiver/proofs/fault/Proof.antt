@@ -4,7 +4,7 @@ use mathlib.Core.Path.{◌≡◌, refl, sym, subst, ◌∙◌}
 use mathlib.Core.List.{List, [], ◌∷◌, ◌++◌}
 use Prim.Native.Nat.{ℕ}
 use native.Mathlib.Omega.{arith}
-use borrow.Author.{Needs.needs, Tests.not-true, Tests.not-false}
+use borrow.Author.{Rules.rules, Tests.not-true, Tests.not-false}
 use denote.Enum.Declared.{tag_of}
 use lib.{Dec.T, ListN.length}
 use types.Run.{OneOf, miss}
@@ -106,5 +106,5 @@ returns-4 c o run e = all_right _ (omega arith) ∙ last c.before o run e
 pub fault_spec : {M : Type 1} → statement M
 fault_spec =
     tie.close
-    (tie.spec (λ c κs. search needs) returns (λ c. search needs) (λ c κs. search needs) (λ c. search needs)
-    (λ c κs. search needs) returns-2 returns-3 returns-4)
+    (tie.spec (λ c κs. search rules) returns (λ c. search rules) (λ c κs. search rules) (λ c. search rules)
+    (λ c κs. search rules) returns-2 returns-3 returns-4)

@@ -4,7 +4,7 @@ use mathlib.Core.Bool.{Bool, true, false, cond}
 use mathlib.Core.List.{List, [], ◌∷◌}
 use Prim.Native.Nat.{ℕ, ◌+◌}
 use native.Mathlib.Omega.{arith}
-use borrow.Author.{Needs.needs, Tests.eq-eqb, Tests.ne_eqb, Tests.lt-ltb, Tests.le-ltb}
+use borrow.Author.{Rules.rules, Tests.eq-eqb, Tests.ne_eqb, Tests.lt-ltb, Tests.le-ltb}
 use denote.Enum.Declared.{tag_of}
 use lib.ListN.{length}
 use types.Run.{OneOf, miss}
@@ -150,5 +150,5 @@ returns-6 c = (
 pub on_frame_spec : {M : Type 1} → statement M
 on_frame_spec =
     tie.close
-    (tie.spec (λ c. search needs) returns (λ c. search needs) returns-2 (λ c. search needs) returns-3 add-count
+    (tie.spec (λ c. search rules) returns (λ c. search rules) returns-2 (λ c. search rules) returns-3 add-count
     returns-4 returns-5 returns-6)

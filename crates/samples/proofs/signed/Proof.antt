@@ -3,7 +3,7 @@
 use mathlib.Core.Path.{◌≡◌, sym, ap, subst, ◌∙◌}
 use Prim.Native.Nat.{ℕ, ◌-◌, ◌<◌, ◌≤◌}
 use native.Mathlib.Omega.{arith}
-use borrow.Author.{Needs.needs, Needs.sfits_of, Tests.lt-ltb, Tests.le-ltb}
+use borrow.Author.{Rules.rules, Needs.sfits_of, Tests.lt-ltb, Tests.le-ltb}
 use lib.IntN.{ℤ, negsuc, ◌-ℤ◌}
 use mir.Syntax.{w16}
 use mir.Val.{to_z, SFits}
@@ -44,4 +44,4 @@ returns-2 c =
 pub signed_spec : {M : Type 1} → statement M
 signed_spec =
     tie.close
-    (tie.spec (λ c. search needs) returns (λ c. search needs) (λ c. search needs) sub-result-2 returns-2)
+    (tie.spec (λ c. search rules) returns (λ c. search rules) (λ c. search rules) sub-result-2 returns-2)

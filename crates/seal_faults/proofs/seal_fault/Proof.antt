@@ -3,7 +3,7 @@
 use mathlib.Core.{Path.◌≡◌, Path.refl, Path.sym, Path.◌∙◌, Bool.Bool, Bool.true, Bool.false, Bool.cond}
 use Prim.Native.Nat.{◌<◌, ◌≤◌}
 use native.Mathlib.Omega.{arith}
-use borrow.Author.{Needs.needs, Tests.not-true, Tests.not-false}
+use borrow.Author.{Rules.rules, Tests.not-true, Tests.not-false}
 use lib.ListN.{length}
 use Rattle.refusals.specs.Rules.{AllRight}
 use Rattle.refusals.proofs.{Faults.all_right, Faults.none_wrong, Faults.refused_so_lem, Settled.first_here}
@@ -152,6 +152,6 @@ file-length-requires c κs =
 pub seal_fault_spec : {M : Type 1} → statement M
 seal_fault_spec =
     tie.close
-    (tie.spec (λ c κs. search needs) returns (λ c κs. search needs) returns-2 returns-3 (λ c κs. search needs)
-    (λ c. search needs) returns-4 returns-5 (λ c. search needs) returns-6 returns-7 (λ c κs. search needs) returns-8
-    (λ c κs. search needs) file-length-requires returns-9 returns-10)
+    (tie.spec (λ c κs. search rules) returns (λ c κs. search rules) returns-2 returns-3 (λ c κs. search rules)
+    (λ c. search rules) returns-4 returns-5 (λ c. search rules) returns-6 returns-7 (λ c κs. search rules) returns-8
+    (λ c κs. search rules) file-length-requires returns-9 returns-10)

@@ -3,7 +3,7 @@
 use mathlib.Core.{Path.◌≡◌, Path.sym, Path.ap, Path.ap₂, Path.◌∙◌, Logic.◌≢◌, Bool.true, Bool.false}
 use Prim.Native.Nat.{ℕ, ◌-◌, ◌*◌, ◌/◌, ◌%◌, ◌^◌, ◌<◌, ◌≤◌}
 use native.Mathlib.Omega.{arith}
-use borrow.Author.{Needs.needs, Tests.eq-eqb, Tests.ne_eqb}
+use borrow.Author.{Rules.rules, Tests.eq-eqb, Tests.ne_eqb}
 use lib.{Count.count_trailing_zeros, Count.trailing_le, Pow.pow_mono}
 use mir.{Facts.Fits-div, Syntax.w16, Val.Fits}
 use Rattle.windows.specs.{Windows.window, Windows.marking, Windows.run, Windows.arriving}
@@ -71,5 +71,5 @@ returns-3 c =
 pub arrive_spec : {M : Type 1} → statement M
 arrive_spec =
     tie.close
-    (tie.spec returns (λ c. search needs) returns-2 (λ c. search needs) add-full (λ c. search needs)
-    (λ c. search (needs, few)) (λ c. search (needs, count_fits)) (λ c. Fits-div _ (add-full c)) returns-3)
+    (tie.spec returns (λ c. search rules) returns-2 (λ c. search rules) add-full (λ c. search rules)
+    (λ c. search (rules, few)) (λ c. search (rules, count_fits)) (λ c. Fits-div _ (add-full c)) returns-3)

@@ -4,7 +4,7 @@ use mathlib.Core.{Path.◌≡◌, Path.sym, Path.ap, Path.◌∙◌, Logic.◌�
 use mathlib.Core.Bool.{Bool, true, false, not, ◌&&◌}
 use Prim.Native.Nat.{ℕ, ◌/◌, ◌%◌, ◌^◌, ◌<◌, ◌≤◌}
 use native.Mathlib.{Nat.div-lt_iff_lt-mul, Omega.arith}
-use borrow.Author.{Needs.needs, Tests.eq-eqb, Tests.ne_eqb, Tests.ltb-true, Tests.ltb-false}
+use borrow.Author.{Rules.rules, Tests.eq-eqb, Tests.ne_eqb, Tests.ltb-true, Tests.ltb-false}
 use lib.{Arith.lt-one, Dec.eqb, Dec.ltb, Pow.pow_mono, Pow.pow_pos}
 use Rattle.windows.specs.Windows.{window, marked, map_in_rule}
 use Rattle.windows.proofs.{Arrivals.by_test, Arrivals.in_rule_if, Windows.lowest}
@@ -50,4 +50,4 @@ returns-3 : tie.Need-returns
 returns-3 c = few_left _ _ _ (omega arith) (omega arith)
 
 pub map_in_rule_spec : {M : Type 1} → statement M
-map_in_rule_spec = tie.close (tie.spec returns returns-2 (λ c. search needs) returns-3)
+map_in_rule_spec = tie.close (tie.spec returns returns-2 (λ c. search rules) returns-3)

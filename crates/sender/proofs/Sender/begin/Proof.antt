@@ -1,7 +1,7 @@
 -- `sender::Sender::begin` meets its contract: its tests come in the definition's order.
 use mathlib.Core.{Path.◌≡◌, Path.sym, Path.◌∙◌, Bool.true}
 use native.Mathlib.Omega.{arith}
-use borrow.Author.{Needs.needs, Tests.not-true, Tests.not-false}
+use borrow.Author.{Rules.rules, Tests.not-true, Tests.not-false}
 use Rattle.refusals.proofs.Settled.{done_if, left_at}
 use Rattle.sender.specs.{Rules.sender_in_rule, Sender.beginning}
 use Rattle.sender.proofs.Sender.begin.Statement.{statement}
@@ -29,4 +29,4 @@ returns-4 c = done_if _ _ _ (within c.before.before.before.before, omega arith)
 pub begin_spec : {M : Type 1} → statement M
 begin_spec =
     tie.close
-    (tie.spec (λ c κs. tt) returns returns-2 returns-3 (λ c. search needs) (λ c. search needs) returns-4)
+    (tie.spec (λ c κs. tt) returns returns-2 returns-3 (λ c. search rules) (λ c. search rules) returns-4)

@@ -2,7 +2,7 @@
 use mathlib.Core.{Path.◌≡◌, Path.refl, Path.sym, Path.ap, List.List, List.[], List.◌∷◌}
 use Prim.Native.Nat.{ℕ}
 use native.Mathlib.Omega.{arith}
-use borrow.Author.{Needs.needs, Tests.lt-ltb, Tests.le-ltb}
+use borrow.Author.{Rules.rules, Tests.lt-ltb, Tests.le-ltb}
 use denote.Enum.Declared.{tag_of}
 use types.Run.{OneOf, miss}
 use Rattle.blocks.specs.Blocks.{blocks}
@@ -60,5 +60,5 @@ returns-5 c run = let p = c.before.before.args in other p.self run p.what c.in-H
 pub informed_spec : {M : Type 1} → statement M
 informed_spec =
     tie.close
-    (tie.spec (λ c κs. tt) (λ c. search needs) (λ c. search needs) returns (λ c κs. tt) returns-2 (λ c. search needs)
+    (tie.spec (λ c κs. tt) (λ c. search rules) (λ c. search rules) returns (λ c κs. tt) returns-2 (λ c. search rules)
     returns-3 returns-4 returns-5)

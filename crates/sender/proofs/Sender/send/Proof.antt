@@ -4,7 +4,7 @@ use mathlib.Core.Path.{◌≡◌, refl, sym, ap, ◌∙◌}
 use mathlib.Core.Bool.{Bool, true, false, not, cond}
 use Prim.Native.Nat.{ℕ, ◌-◌}
 use native.Mathlib.Omega.{arith}
-use borrow.Author.{Needs.needs, Tests.eqb-true, Tests.not-false}
+use borrow.Author.{Rules.rules, Tests.eqb-true, Tests.not-false}
 use lib.{Dec.eqb, Dec.ltb, ListN.length}
 use Rattle.octets.specs.Buffers.{put}
 use Rattle.refusals.specs.Numbers.{accepted, no_room, no_transfer, wrong_sound, out_of_rule}
@@ -91,5 +91,5 @@ returns-3 c =
 pub send_spec : {M : Type 1} → statement M
 send_spec =
     tie.close
-    (tie.spec (λ c κs. tt) (λ c. search needs) (λ c κs. tt) returns (λ c. search needs) (λ c κs. tt) (λ c. search needs)
-    cast-known (λ c κs. tt) (λ c. search needs) returns-2 (λ c. search needs) returns-3)
+    (tie.spec (λ c κs. tt) (λ c. search rules) (λ c κs. tt) returns (λ c. search rules) (λ c κs. tt) (λ c. search rules)
+    cast-known (λ c κs. tt) (λ c. search rules) returns-2 (λ c. search rules) returns-3)
