@@ -51,6 +51,7 @@ some_digits n (suc d) h k = omega arith
 
 pub exact : FieldsExact
 unfolding exponent_of fraction_of
+exact zero h k = elim h [ ]
 exact (suc m) h k =
     let n : ℕ = suc m in
     let p : ℕ = highest_one n in
@@ -92,6 +93,7 @@ rescale (fin t m g) s a b c d h e v = (
 -- a field that is neither 0 nor all ones has a leading digit
 fields : (s : Bool) (x t : ℕ) → 0 < x → x < 255 → of_fields binary32 s x t ≡ odd 24 s (2 ^ 23 + t) (x - 1) 149
 unfolding of_fields
+fields s zero t h k = elim h [ ]
 fields s (suc x) t h k =
     let same : x ≡ suc x - 1 = omega arith in
     rw (ne_eqb (suc x) 255 (λ e. omega arith)) (ap (λ (d : ℕ). odd 24 s (2 ^ 23 + t) d 149) same)
@@ -113,6 +115,7 @@ in_room q j k h l = lt_of_lt_of_le (shl_lt j k h) (pow_mono l)
 
 level_is : (s : Bool) (n : ℕ) → 0 < n → n ≤ 32768 → Is (of_fields binary32 s (exponent_of n) (fraction_of n)) s n
 unfolding exponent_of
+level_is s zero h k = elim h [ ]
 level_is s (suc m) h k =
     let n : ℕ = suc m in
     let q : ℕ = 2 ^ 23 + fraction_of n in

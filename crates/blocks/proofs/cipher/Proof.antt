@@ -22,7 +22,7 @@ returns c =
     let copied = written.before.before.before in
     let s = copied.before.before.before.before in
     let p = s.args in
-    let value : written.write_number.new.0 ≡ initial p.pair.now p.session =
+    let value : written.write_number.new.d ≡ initial p.pair.now p.session =
     written.write_number.ensures
     ∙ ap (λ (d : List ℕ). put d 6 (digits 256 4 p.session)) copied.copy.ensures
     ∙ value_made _ p.pair.now p.session refl s.requires.1 in

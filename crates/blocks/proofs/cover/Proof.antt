@@ -36,7 +36,7 @@ returns-3 c =
     let long = length_covered trivium p.key.now p.pair.now p.session p.k run in
     let room : p.at + length all ≤ length d = omega arith in
     ap (λ (l : List ℕ). take p.at d ++ (l ++ drop (length d - p.at) (drop p.at d)))
-    (ap (λ (o : Outcome Enciphered ℕ). o.buffer-1)
+    (ap (λ (o : Outcome Enciphered ℕ). o.buffer)
     (call.encipher.ensures ∙ enciphers got.result run part (simp (length-take, length-drop) (omega arith)))
     ∙ ap (λ (k : Keystream). placed part 0 (enciphered k run)) got.ensures)
     ∙ placed_part d p.at all room

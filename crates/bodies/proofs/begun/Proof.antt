@@ -29,19 +29,19 @@ long s told = s.requires.1 ∙ ap (λ (k : Kind). (cipher_of k).value_bytes) tol
 returns : tie.Need-returns-in-Trivium
 returns c =
     let told = c.before.before.before in
-    let s = told.before.before.before in
+    let s = told.before.before in
     named s Trivium c.trivium_begun.ensures (omega arith) told.enum_told-1.given.1
 
 returns-2 : tie.Need-returns-in-Enocoro
 returns-2 c =
     let told = c.before.before.before in
-    let s = told.before.before.before in
+    let s = told.before.before in
     named s Enocoro c.enocoro_begun.ensures (omega arith) told.enum_told-in-Enocoro-1.given.1
 
 returns-3 : tie.Need-returns-in-Triad
 returns-3 c =
     let told = c.before.before.before in
-    let s = told.before.before.before in
+    let s = told.before.before in
     named s Triad c.triad_begun.ensures (omega arith) told.enum_told-in-Triad-1.given.1
 
 pub begun_spec : {M : Type 1} → statement M

@@ -13,7 +13,7 @@ unfolding chunks.ahead
 returns c =
     let made = c.before in
     let p = made.before.before.before.args in
-    ap (λ (m : Made). ahead m.registers-1) made.make-made.ensures
+    ap (λ (m : Made). ahead m.registers) made.make-made.ensures
     ∙ made_stream p.key.now p.value.now made.before.make-arg-1.given.0 (omega arith)
 
 pub trivium_begun_spec : {M : Type 1} → statement M

@@ -33,7 +33,7 @@ long v = let p = (start v).args in length_slice p.body.now p.at p.size (omega ar
 
 -- the chunk holds them deciphered at its front
 filled : (v : tie.After-cover-next)
-    → v.cover-next.new.1.0 ++ drop ((start v).args.size - 0) v.before.before.before.copy.new.0
+    → v.cover-next.new.bytes.0 ++ drop ((start v).args.size - 0) v.before.before.before.copy.new.0
     ≡ put (blank v) 0 (plain v)
 filled v =
     let copy = v.before.before.before in
@@ -57,11 +57,11 @@ gone : (v : tie.After-cover-next) → ahead v.cover-next.result ≡ from (start 
 gone v =
     let copy = v.before.before.before in
     let n : ℕ = (start v).args.size - 0 in
-    let kept : length copy.copy.new.0 ≡ length (blank v) =
+    let kept : length copy.copy.new.d ≡ length (blank v) =
     ap length copy.copy.ensures ∙ length_put (blank v) 0 _ in
     v.cover-next.ensures.0
     ∙ ap (λ (m : ℕ). from m (ahead (start v).args.cipher))
-    (length_slice copy.copy.new.0 0 n (omega arith) ∙ omega arith)
+    (length_slice copy.copy.new.d 0 n (omega arith) ∙ omega arith)
 
 room : tie.Need-slice_bounds-slice-end
 room c =

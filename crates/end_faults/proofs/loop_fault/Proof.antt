@@ -37,7 +37,7 @@ returns-4 c =
       omega arith,
       (
         omega arith,
-        (omega arith, (sym good.before.loops_good_lem.ensures ∙ good.if-loops_good.true, tt)),
+        (omega arith, (sym good.before.loops_good.ensures ∙ good.if-loops_good.true, tt)),
       ),
     )
 
@@ -46,7 +46,7 @@ returns-5 c =
     let bad = c.before in
     c.verdict_of-2.ensures
     ∙ verdict_at 3 _
-    (omega arith, (omega arith, (omega arith, sym bad.before.loops_good_lem.ensures ∙ bad.if-loops_good.false))) (omega arith)
+    (omega arith, (omega arith, (omega arith, sym bad.before.loops_good.ensures ∙ bad.if-loops_good.false))) (omega arith)
     (omega arith)
 
 pub loop_fault_spec : {M : Type 1} → statement M

@@ -19,8 +19,8 @@ returns-2 c =
     let s = c.before.before.before in
     let i = s.before.before in
     let t = i.before.before in
-    let p = t.before.before.before.before.args in
-    kept_refused enocoro_size enocoro_in enocoro_bytes ahead skipping answered (λ a. a.refusal) (λ a. a.next-1) (λ n r. refl)
+    let p = t.before.before.before.args in
+    kept_refused enocoro_size enocoro_in enocoro_bytes ahead skipping answered (λ a. a.refusal) (λ a. a.next) (λ n r. refl)
     (λ n r. refl) p.cipher.now p.input.now p.output.now s.encipher-done.ensures i.cipher_in-registers.ensures
     (omega arith) c.if-refusal-ne-ACCEPTED.true
 
@@ -30,8 +30,8 @@ returns-3 c =
     let s = c.before.before.before.before.before.before.before.before in
     let i = s.before.before in
     let t = i.before.before in
-    let p = t.before.before.before.before.args in
-    kept_done enocoro_size enocoro_in enocoro_bytes ahead skipping answered (λ a. a.refusal) (λ a. a.next-1) (λ n r. refl)
+    let p = t.before.before.before.args in
+    kept_done enocoro_size enocoro_in enocoro_bytes ahead skipping answered (λ a. a.refusal) (λ a. a.next) (λ n r. refl)
     (λ n r. refl) p.cipher.now p.input.now p.output.now s.encipher-done.ensures i.cipher_in-registers.ensures
     (omega arith) length_cipher c.before.before.before.before.before.if-refusal-ne-ACCEPTED.false
     c.before.before.write_cipher.ensures

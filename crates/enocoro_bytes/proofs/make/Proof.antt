@@ -11,14 +11,14 @@ use Rattle.enocoro_bytes.proofs.make.Tie as tie
 returns : tie.Need-returns-then-refusal-ne-ACCEPTED
 unfolding enocoro_make making_cipher
 returns c =
-    made_refused _ _ _ (λ a. a.refusal) (λ a. enocoro_bytes a.registers-1) _ _ tt refl (λ n. refl)
+    made_refused _ _ _ (λ a. a.refusal) (λ a. enocoro_bytes a.registers) _ _ tt refl (λ n. refl)
     c.before.new-made.ensures
     (omega arith)
 
 returns-2 : tie.Need-returns-then-cipher-lt-CIPHER_BYTES
 unfolding enocoro_make making_cipher
 returns-2 c =
-    made_short _ _ _ (λ a. a.refusal) (λ a. enocoro_bytes a.registers-1) _ _ tt refl (λ n. refl)
+    made_short _ _ _ (λ a. a.refusal) (λ a. enocoro_bytes a.registers) _ _ tt refl (λ n. refl)
     c.before.before.new-made.ensures
     c.before.if-refusal-ne-ACCEPTED.false (omega arith)
 
@@ -26,7 +26,7 @@ returns-3 : tie.Need-returns
 unfolding enocoro_make making_cipher
 returns-3 c =
     let room = c.before.before.before.before.before in
-    made_stored _ _ _ (λ a. a.refusal) (λ a. enocoro_bytes a.registers-1) _ _ tt refl (λ n. refl)
+    made_stored _ _ _ (λ a. a.refusal) (λ a. enocoro_bytes a.registers) _ _ tt refl (λ n. refl)
     room.before.before.new-made.ensures
     room.before.if-refusal-ne-ACCEPTED.false (omega arith) (λ _. length_cipher _) c.before.before.write_cipher.ensures
 

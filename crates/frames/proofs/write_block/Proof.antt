@@ -58,7 +58,7 @@ returns-3 c =
     with_number (λ (n : ℕ). put d 0 (short 2 p.session 2 n)) p.k headed.write_short.ensures (omega arith)
     ∙ put_placed d 0 first (omega arith) in
     with_number
-    (λ (n : ℕ). put counted.write_number.new.0 8 (covered trivium p.key.now p.pair.now p.session n R))
+    (λ (n : ℕ). put counted.write_number.new.d 8 (covered trivium p.key.now p.pair.now p.session n R))
     p.k covering.cover.ensures (omega arith)
     ∙ ap (λ (e : List ℕ). put e 8 run)
     (counted.write_number.ensures ∙ (λ j. put (front j) 7 (digits 256 1 (sym same j))))

@@ -24,7 +24,7 @@ module _ (s : tie.Start) where
   told = s.args.told
 
   known : Shown triad file
-  known = shown triad file (file_right triad file (sym s.pre.1))
+  known = shown triad file (file_right triad file (sym s.requires.1))
 
   -- the numbers that it goes by are those of the file
   record Told : Type 0 where
@@ -44,7 +44,7 @@ module _ (s : tie.Start) where
   as_told : Told
   as_told =
       let k = known in
-      let o = s.pre.0 in
+      let o = s.requires.0 in
       let key = ap (λ (a : Opened). a.key) o in
       let value = ap (λ (a : Opened). a.value_at) o in
       let samples = ap (λ (a : Opened). a.samples) o in
@@ -105,14 +105,14 @@ returns c =
     ap length v.slice-value.ensures
     ∙ length_slice (file s) (told s).value_at 12 (omega (arith, t.far)) in
     let lent = named s _ v.slice-value.result.now (f.slice-front.result.now ++ l.slice-loops.result.now)
-    b.slice-body.result.now (d.tag_due_lem.ensures ∙ sym (done_if _ _ _ (long, tt))) (omega arith) in
+    b.slice-body.result.now (d.tag_due.ensures ∙ sym (done_if _ _ _ (long, tt))) (omega arith) in
     let at : ℕ = (told s).loops_at - 1 + (1 + 8 * (told s).loops) + 1 in
     let place : at ≡ tag_place triad (file s) + 1 = omega (arith, t.loop, t.many, (known s).tag) in
     let there = (word_read (file s) at 8
     (λ i. omega (arith, f.before.before.before.before.before.shared_slice_known-1.given i)) (omega arith)
     (c.number_at-there.ensures ∙ ap word (number_lent (file s) at 8))).0
     ∙ ap (λ (n : ℕ). number_at (file s) n 8) place in
-    let due = due_by s d.tag_due_lem.result (omega arith)
+    let due = due_by s d.tag_due.result (omega arith)
     (lent
     ∙ (λ i.
     under s (told s).key (v.slice-value.ensures i) (f.slice-front.ensures i ++ l.slice-loops.ensures i) (b.slice-body.ensures i))

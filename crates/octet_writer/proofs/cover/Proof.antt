@@ -9,7 +9,7 @@ use Rattle.octet_writer.proofs.cover.Tie as tie
 
 returns : tie.Need-returns
 returns c =
-    let p = c.before.before.before.before.before.before.before.args in
+    let p = c.before.before.before.before.before.before.args in
     let call = c.before.before.write_number in
     call.ensures
     ∙ ap (λ (x : ℕ). put p.bytes.now p.at (digits 256 p.n (bit_xor x p.stream)))

@@ -27,7 +27,7 @@ module _ (t : tie.After-triad_ring-third) where
   lent = k.before.before.before.before.before
 
   right : length lent.args.keys.now ≡ keys_bytes
-  right = k.before.if-keys-ne-KEYS_BYTES.left
+  right = k.before.if-keys-ne-KEYS_BYTES.false
 
   are : rings t.before.before.before.before.trivium_ring-first.result t.before.before.enocoro_ring-second.result
       t.triad_ring-third.result

@@ -29,7 +29,7 @@ module _ (c : tie.After-write_name-key_at) where
   d = start.args.d.now
 
   given : (length name ≤ 32) × (128 ≤ length d)
-  given = start.pre
+  given = start.requires
 
   abbrev named : List ℕ
   named = line name_word name

@@ -37,9 +37,9 @@ returns-2 c =
     let f : List ℕ = front_bytes (front_of r) in
     let rest : List ℕ = row count_widths (r.count ∷ []) in
     let long = length_front (front_of r) (sizes start).0 (sizes start).1 in
-    let after : List ℕ = front.write_front.new.0 in
+    let after : List ℕ = front.write_front.new.d in
     let same : length after ≡ length d = ap length front.write_front.ensures ∙ length_put d 0 f in
-    let last : one.write_number.new.0 ≡ put after 24 (digits 256 2 r.count) = one.write_number.ensures in
+    let last : one.write_number.new.d ≡ put after 24 (digits 256 2 r.count) = one.write_number.ensures in
     last
     ∙ row_written after count_widths (r.count ∷ []) 24 (omega arith)
     ∙ goes_on d 0 f rest (front.write_front.ensures ∙ put_placed d 0 f (omega arith))

@@ -21,8 +21,8 @@ returns : tie.Need-returns-then-d-lt-FRONT_BYTES
 returns c =
     let start = c.before.before.before.before in
     let f = start.args.front in
-    let key : length f.key-1 ≡ key_bytes = (sizes start).0 in
-    let pair : length f.pair-1 ≡ pair_bytes = (sizes start).1 in
+    let key : length f.key ≡ key_bytes = (sizes start).0 in
+    let pair : length f.pair ≡ pair_bytes = (sizes start).1 in
     put_none start.args.d.now 0 (front_bytes f) (rw (length_front f key pair) (omega arith))
 
 returns-2 : tie.Need-returns
@@ -35,9 +35,9 @@ returns-2 c =
     let start = one.before.before.before.before.before.before.before in
     let d : List ℕ = start.args.d.now in
     let f = start.args.front in
-    let key : length f.key-1 ≡ key_bytes = (sizes start).0 in
-    let pair : length f.pair-1 ≡ pair_bytes = (sizes start).1 in
-    let names : two.copy-2.new.0 ≡ placed d 0 (f.key-1 ++ f.pair-1) =
+    let key : length f.key ≡ key_bytes = (sizes start).0 in
+    let pair : length f.pair ≡ pair_bytes = (sizes start).1 in
+    let names : two.copy-2.new.d ≡ placed d 0 (f.key-1 ++ f.pair-1) =
     two.copy-2.ensures
     ∙ goes_on d 0 f.key-1 f.pair-1 (one.copy.ensures ∙ put_placed d 0 f.key-1 (omega arith)) (omega arith)
     (omega arith) in

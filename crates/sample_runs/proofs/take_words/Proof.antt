@@ -38,7 +38,7 @@ loop-again c =
     let run : List ℤ = unturned p.bytes.now in
     let long : length run ≡ length p.bytes.now / 2 = length_twos low_first p.bytes.now in
     let got : z ≡ get_or run l.i (pos 0) =
-    to_z-of_z w16 c.signed.result (sfits_of c.signed.type-inv) ∙ c.signed.ensures
+    to_z-of_z w16 c.signed.result (sfits_of c.signed.type_inv) ∙ c.signed.ensures
     ∙ made (get_or p.bytes.now (2 * l.i) 0) (get_or p.bytes.now (2 * l.i + 1) 0) (omega arith)
     ∙ sym (twos_at low_first p.bytes.now l.i (pos 0) (omega arith)) in (
       omega arith,

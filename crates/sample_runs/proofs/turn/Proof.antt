@@ -59,7 +59,7 @@ loop-again c =
     let bits : c.before.bits-bits.result ≡ unsigned (get_or d l.i (pos 0)) =
     c.before.bits-bits.ensures ∙ ap unsigned (to_z-of_z w16 z (sfits_of read.bits-arg-1.given) ∙ ahead) in
     let got : to_z w16 (of_z w16 c.word.result) ≡ get_or run l.i (turned (pos 0)) =
-    to_z-of_z w16 c.word.result (sfits_of c.word.type-inv)
+    to_z-of_z w16 c.word.result (sfits_of c.word.type_inv)
     ∙ made (get_or d l.i (pos 0)) c.before.bits-bits.result c.word.ensures (omega arith) (omega arith) bits
     ∙ sym (front_at d p.count l.i (omega arith)) in (
       omega arith,

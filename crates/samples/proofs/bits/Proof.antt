@@ -2,7 +2,7 @@
 use mathlib.Core.{Path.◌≡◌, Path.refl, Path.ap, Path.◌∙◌, Bool.true, Bool.false}
 use Prim.Native.Nat.{ℕ, ◌-◌, ◌<◌}
 use native.Mathlib.Omega.{arith}
-use borrow.Author.{Needs.sfits_of, Tests.leb-false}
+use borrow.Author.{Tests.leb-false}
 use lib.{Dec.T, IntN.ℤ, IntN.pos, IntN.negsuc, IntN.nat_abs, IntN.◌-ℤ◌, Signed.le_z, Signed.non_neg}
 use mir.Syntax.{w16}
 use mir.Val.{to_z, of_z, Fits, SFits}
@@ -13,7 +13,7 @@ use Rattle.samples.proofs.bits.Tie as tie
 
 -- what the code sees of a sample is the sample
 seen : (z : ℤ) → SFits w16 z → to_z w16 (of_z w16 z) ≡ z
-seen z f = to_z-of_z w16 z f
+seen z f = to_z-of_z f
 
 -- a sample that is not below 0
 record Kept (z : ℤ) : Type 0 where
@@ -42,7 +42,7 @@ lower : (z : ℤ) (f : SFits w16 z) (u : Under z) → to_z w16 (of_z w16 (negsuc
 lower z f u =
     ap (λ (y : ℤ). to_z w16 (of_z w16 (negsuc 0 -ℤ y))) (seen z f)
     ∙ ap (λ (y : ℤ). to_z w16 (of_z w16 y)) u.less
-    ∙ seen (pos u.by) (sfits_of u.small)
+    ∙ seen (pos u.by) (record { sfits = u.small })
 
 cast-result : tie.Need-overflow_cast-result
 cast-result c =
@@ -64,7 +64,7 @@ below c =
 sub-result : tie.Need-overflow_sub-result
 sub-result c =
     let z = c.before.args.sample in
-    rw (seen z c.before.ranges.sample, (below c).less) (sfits_of (below c).small)
+    rw (seen z c.before.ranges.sample, (below c).less) (record { sfits = (below c).small })
 
 cast-result-2 : tie.Need-overflow_cast-result-2
 cast-result-2 c =

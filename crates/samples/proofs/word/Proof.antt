@@ -63,7 +63,7 @@ signed_so n e same = e ∙ ap signed same
 seen : (c : tie.After-signed-number)
     → to_z w16 (of_z w16 c.signed-number.result) ≡ signed (c.before.args.upper * 256 + c.before.args.lower)
 seen c =
-    to_z-of_z w16 c.signed-number.result (sfits_of c.signed-number.type-inv) ∙ signed_so _ c.signed-number.ensures (omega arith)
+    to_z-of_z w16 c.signed-number.result (sfits_of c.signed-number.type_inv) ∙ signed_so _ c.signed-number.ensures (omega arith)
 
 returns : tie.Need-returns-then-number-le-LOWEST
 returns c =

@@ -84,7 +84,7 @@ write-front-requires c κs = omega (arith, known c.before)
 write-loops-requires : tie.Need-write_loops-requires
 write-loops-requires c κs =
     let w = c.before.before.before in
-    omega (arith, known (passed (front w)), w.write_samples.auto.1.1.0, (front w).write-front.auto.0)
+    omega (arith, known (passed (front w)), w.write_samples.auto.output.1.0, (front w).write-front.auto.0)
 
 write-end-requires : tie.Need-write_end-requires
 write-end-requires c κs =
@@ -98,7 +98,7 @@ write-end-requires c κs =
       omega (
         arith,
         k,
-        l.write_loops.auto.0,
+        l.write_loops.auto.output,
         w.write_samples.kept.1.1.0,
         (front w).write-front.kept.0,
       ),
@@ -270,7 +270,7 @@ returns-2 c =
     (w.write_end.ensures
     ∙ ap (put _ (last (cipher s) (ring s) p)) (row_ring a.kind a.ring a.second a.third a.key
     a.value.now _ _ _ _)))
-    ∙ settled_done _ _ _ (sym e.if-fault-ne-ACCEPTED.left ∙ found e.before)
+    ∙ settled_done _ _ _ (sym e.if-fault-ne-ACCEPTED.false ∙ found e.before)
 
 pub seal_spec : {M : Type 1} → statement M
 seal_spec =

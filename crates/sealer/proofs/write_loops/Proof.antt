@@ -48,10 +48,10 @@ loop-again c =
     let l = w.before.before.before.before.loop-i in
     let first = w.before.before.before.before.before.before.before in
     let p = first.before.before.before.before.args in
-    let d : List ℕ = first.write_number.new.0 in
-    let kept : length d ≡ length p.output.now = first.write_number.auto.0 in (
+    let d : List ℕ = first.write_number.new.d in
+    let kept : length d ≡ length p.output.now = first.write_number.auto.d in (
       omega arith,
-      w.write_number-in-loop-i.auto.0 ∙ l.invariant.1,
+      w.write_number-in-loop-i.auto.d ∙ l.invariant.1,
       w.write_number-in-loop-i.ensures
           ∙ one_more d p.loops.now (p.at + 1) l.i (omega arith) (omega arith) (omega arith) l.invariant.2,
     )
@@ -67,7 +67,7 @@ returns c =
     let n : ℕ = length p.loops.now in
     let all : l.i ≡ n = omega arith in
     l.invariant.2
-    ∙ ap (λ (k : ℕ). put first.write_number.new.0 (p.at + 1) (row (fours k) p.loops.now)) all
+    ∙ ap (λ (k : ℕ). put first.write_number.new.d (p.at + 1) (row (fours k) p.loops.now)) all
     ∙ puts_on p.output.now p.at (n / 2 ∷ []) (row (fours n) p.loops.now)
     (first.write_number.ensures ∙ ap (put p.output.now p.at) (one_digit 256 (n / 2) (omega arith)))
     (omega arith)

@@ -15,7 +15,7 @@ use Rattle.sealer.proofs.write_tag.Tie as tie
 
 -- the way back from the tag to what was lent
 abbrev start : tie.After-slice-front → tie.Start
-start f = f.before.before.before.before.before
+start f = f.before.before.before.before
 
 abbrev back : tie.After-write_number-arg-2-1 → tie.Start
 back c = start c.before.before.before.before.before.before.before.before.before
@@ -23,7 +23,7 @@ back c = start c.before.before.before.before.before.before.before.before.before
 -- the tag by a row
 due : (d : tie.After-tag_due-due) → let p = (start d.before.before.before.before).args in
     let key = key_named p.t1 p.number in
-    d.tag_due_lem.result
+    d.tag_due.result
     ≡ triad.tag key p.value.now
     (slice p.output.now 0 p.start ++ slice p.output.now p.stop (p.at - p.stop))
     (enciphered (triad.stream key p.value.now) (slice p.output.now p.start (p.stop - p.start)))
@@ -34,8 +34,8 @@ due d =
     let s = start f in
     let p = s.args in
     let key = key_named p.t1 p.number in
-    d.tag_due_lem.ensures
-    ∙ sym (done_if _ _ _ (s.pre.1, tt))
+    d.tag_due.ensures
+    ∙ sym (done_if _ _ _ (s.requires.1, tt))
     ∙ (λ i.
     triad.tag key p.value.now (f.slice-front.ensures i ++ l.slice-loops.ensures i)
     (enciphered (triad.stream key p.value.now) (b.slice-body.ensures i)))
@@ -50,15 +50,15 @@ returns c =
     let p = s.args in
     let out : List ℕ = p.output.now in
     w.write_number-2.ensures
-    ∙ puts_on out p.at (digits 256 1 8) (digits 256 8 d.tag_due_lem.result) v.write_number.ensures
+    ∙ puts_on out p.at (digits 256 1 8) (digits 256 8 d.tag_due-due.result) v.write_number.ensures
     (omega (arith, length_digits 256 1 8)) (omega (
       arith,
       length_digits 256 1 8,
       length_digits 256 8
-          d.tag_due_lem.result,
-      s.pre,
+          d.tag_due-due.result,
+      s.requires,
     ))
-    ∙ ap (λ (l : List ℕ). put out p.at (digits 256 1 8 ++ l)) (sym (append-nil (digits 256 8 d.tag_due_lem.result)))
+    ∙ ap (λ (l : List ℕ). put out p.at (digits 256 1 8 ++ l)) (sym (append-nil (digits 256 8 d.tag_due.result)))
     ∙ ap (λ (n : ℕ). put out p.at (digits 256 1 8 ++ (digits 256 8 n ++ []))) (due d)
 
 pub write_tag_spec : {M : Type 1} → statement M

@@ -15,7 +15,7 @@ phase_numbers_spec =
     tie.close
     (tie.spec (λ c. search rules) (λ c. search rules) (λ c. search rules) (λ c. search rules) (λ c. search rules)
     (λ c. search rules)
-    (λ c. ap phase_numbers (sym c.enum_told-1.given.1))
+    (λ c. ap phase_numbers (sym c.in-Idle.given.1))
     (λ c. ap phase_numbers (sym c.enum_told-in-Opening-1.given.1))
     (λ c. ap phase_numbers (sym c.before.phase-1.given.1))
     (λ c. ap phase_numbers (sym c.enum_told-in-Done-1.given.1))

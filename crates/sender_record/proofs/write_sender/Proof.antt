@@ -37,11 +37,11 @@ returns-2 c =
     let s = start.args.sender in
     let rest : List ℕ = row phase_widths (phase_numbers s.phase) in
     let long = length_front (front_of s) (sizes start).0 (sizes start).1 in
-    let after : List ℕ = front.write_front.new.0 in
+    let after : List ℕ = front.write_front.new.d in
     let same : length after ≡ length d =
     ap length front.write_front.ensures ∙ length_put d 0 (front_bytes (front_of s)) in
     let n = front.before.before.phase_numbers-numbers in
-    let last : two.write_number-2.new.0 ≡ put one.write_number.new.0 25 (digits 256 2 n.result.known) =
+    let last : two.write_number-2.new.d ≡ put one.write_number.new.d 25 (digits 256 2 n.result.known) =
     two.write_number-2.ensures in
     last
     ∙ ap (λ (l : List ℕ). put l 25 (digits 256 2 n.result.known)) one.write_number.ensures

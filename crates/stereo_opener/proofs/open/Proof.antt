@@ -18,7 +18,7 @@ use Rattle.pack.proofs.Theorems.{keyed_numbered}
 use Rattle.surveyor.proofs.Lacking.{lacking_so}
 use Rattle.opener.proofs.Told.{found, lacks_told, right, none_broken, answered, Known, known, deciphered}
 use Rattle.stereo_opener.specs.Calls.{stereo_faults, opening_stereo}
-use Rattle.stereo_opener.proofs.{Order.numbered_stereo, Order.after_keyed_lem, Order.survey_counts}
+use Rattle.stereo_opener.proofs.{Order.numbered_stereo, Order.after_keyed, Order.survey_counts}
 use Rattle.stereo_opener.proofs.open.Statement.{statement}
 use Rattle.stereo_opener.proofs.open.Tie as tie
 
@@ -80,7 +80,7 @@ module _ (e : tie.Else-fault-ne-ACCEPTED) where
   whole =
       right_both (keyed f) (later f)
       (none_wrong (keyed f ++ later f) (numbered_stereo (cipher f) (ring_in (all f) (file f)) (file f) (length (lent f)))
-      (sym (fault f) ∙ e.if-fault-ne-ACCEPTED.left))
+      (sym (fault f) ∙ e.if-fault-ne-ACCEPTED.false))
 
   taken : (opened f).refusal ≡ accepted
   taken = found (all f) (file f) (opened f) f.before.inspect-opened.ensures ∙ sym (all_right (keyed f) whole.0)
@@ -95,7 +95,7 @@ body_long : (c : tie.After-slice-body) → let e = c.before.before in
     length c.slice-body.result.now ≡ 2 * sample_count (cipher (f e)) (file (f e))
 body_long c =
     let e = c.before.before in
-    let m : ℕ = (f e).before.before.survey.result.samples in
+    let m : ℕ = (f e).before.before.survey-told.result.samples in
     ap length c.slice-body.ensures
     ∙ length_slice (file (f e)) ((opened (f e)).loops_at - 1 - 2 * m) (2 * m)
     (omega (arith, (told e).loops, count e, (told e).there))

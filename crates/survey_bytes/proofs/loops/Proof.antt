@@ -44,7 +44,7 @@ faultless c =
     let all = all_told p.file.now s.survey-told.ensures right.0 in
     record {
       taken = right.0;
-      counted = ap (λ (o : Opened). o.loops-1) all;
+      counted = ap (λ (o : Opened). o.loops) all;
       found = ap (λ (o : Opened). o.loops_at) all;
       fits = right.1;
     }

@@ -88,7 +88,7 @@ returns-2 c =
       value_at = value_place f;
       loops_at = at i + 4 + 2 * samples read i + 1;
     })
-    ∙ settled_done _ _ _ (sym e.if-number-ne-ACCEPTED.left ∙ ap (λ (v : Verdict). v.number) e.before.file_fault-fault.ensures)
+    ∙ settled_done _ _ _ (sym e.if-number-ne-ACCEPTED.false ∙ ap (λ (v : Verdict). v.number) e.before.file_fault-fault.ensures)
 
 pub survey_spec : {M : Type 1} → statement M
 survey_spec =

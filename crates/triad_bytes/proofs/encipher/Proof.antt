@@ -20,7 +20,7 @@ returns-2 c =
     let s = c.before.before.before in
     let i = s.before.before in
     let t = i.before.before.before in
-    let p = t.before.before.before.before.args in
+    let p = t.before.before.before.args in
     kept_refused triad_size triad_in triad_bytes ahead skipping answered (λ a. a.refusal) (λ a. a.next) (λ n r. refl)
     (λ n r. refl) p.cipher.now p.input.now p.output.now s.encipher-done.ensures
     (triad_read p.cipher.now i.before.six_words_in.ensures i.registers_of-registers.ensures)

@@ -41,7 +41,7 @@ loop-again c =
     swap_gives ran.run-ran.result.word (ahead l.moved) swap.swapped.ensures
     (word_gives here (ran_word l.moved _ ran.run-ran.ensures) (omega arith)) in (
       omega arith,
-      covered.cover_at.auto.0 ∙ l.invariant.1,
+      covered.cover_at.auto.bytes ∙ l.invariant.1,
       gone_on (state p.registers) here l.at 8 l.invariant.2 (ran_state l.moved _ ran.run-ran.ensures)
           (omega arith) (omega arith),
       covers_on (ahead p.registers) (ahead l.moved) p.bytes.now l.bytes l.at 8 _ l.invariant.3
@@ -51,7 +51,7 @@ loop-again c =
 same_length : tie.Need-shape_of-bytes invariant-loop decreases-loop
 same_length c =
     let covered = c.before.before.before in
-    covered.cover_at-2.auto.0 ∙ covered.before.before.before.before.before.before.loop-at.invariant.1
+    covered.cover_at-2.auto.bytes ∙ covered.before.before.before.before.before.before.loop-at.invariant.1
 
 returns : tie.Need-returns invariant-loop decreases-loop
 unfolding covering skipping

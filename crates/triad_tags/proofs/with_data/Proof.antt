@@ -23,7 +23,7 @@ module _ (start : Registers) (front loops : List ℕ) where
       ∙ in_pieces start (front ++ loops) _
 
 add-length-bytes : tie.Need-overflow_add-front
-add-length-bytes c = let s = c.before.before in omega (arith, s.well-formed.1.0.1, s.well-formed.1.1.0.1)
+add-length-bytes c = let s = c.before.before in omega (arith, s.well_formed.1.0.1, s.well_formed.1.1.0.1)
 
 returns : tie.Need-returns
 returns c =

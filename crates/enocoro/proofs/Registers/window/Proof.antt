@@ -12,8 +12,8 @@ returns c =
     let first = second.before.before.before in
     let blank = first.before.before in
     let p = blank.before.args in
-    laid p.self blank.blank_window-w.result blank.blank_window-w.ensures (omega (arith, blank.before.well-formed))
-    (omega (arith, blank.before.well-formed))
+    laid p.self blank.blank_window-w.result blank.blank_window-w.ensures (omega (arith, blank.before.well_formed))
+    (omega (arith, blank.before.well_formed))
     first.write_word.ensures second.write_word-2.ensures third.write_word-3.ensures
     fourth.write_word-4.ensures (omega arith) (omega arith) (omega arith) (omega arith)
 

@@ -17,9 +17,9 @@ rest m = take_all (length m) (drop 8 m) (simp length-drop (omega arith))
 
 -- a run, covered, in its place
 in_place : (sound : List ℕ) (r : Receiver) {at : ℕ} {run own after : List ℕ}
-    → after ≡ put sound at (covered trivium r.key-1 r.pair-1 r.session r.count run) → at ≡ place r.count
+    → after ≡ put sound at (covered trivium r.key r.pair r.session r.count run) → at ≡ place r.count
     → run ≡ own
-    → after ≡ put sound (place r.count) (covered trivium r.key-1 r.pair-1 r.session r.count own)
+    → after ≡ put sound (place r.count) (covered trivium r.key r.pair-1 r.session r.count own)
 in_place sound r e here same = cc
 
 same_length : tie.Need-shape_of-sound

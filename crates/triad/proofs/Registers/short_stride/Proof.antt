@@ -28,9 +28,9 @@ returns c =
     (λ i.
     of_words (first.shifted.ensures i) (second.shifted-2.ensures i) (third.shifted-3.ensures i)
     (fourth.shifted-4.ensures i) (fifth.shifted-5.ensures i) (sixth.shifted-6.ensures i))
-    ∙ part_strode r.a1 r.a0 r.b1 r.b0 r.c1 r.c0 p.message new (omega (arith, start.well-formed))
-    (omega (arith, start.well-formed)) (omega (arith, start.well-formed)) (omega (arith, start.well-formed))
-    (omega (arith, start.well-formed)) (omega (arith, start.well-formed)) few.at_most_64-left.result (omega arith)
+    ∙ part_strode r.a1 r.a0 r.b1 r.b0 r.c1 r.c0 p.message new (omega (arith, start.well_formed))
+    (omega (arith, start.well_formed)) (omega (arith, start.well_formed)) (omega (arith, start.well_formed))
+    (omega (arith, start.well_formed)) (omega (arith, start.well_formed)) few.at_most_64-left.result (omega arith)
     ∙ ap (λ (n : ℕ). updates (bits_up n p.message) (state r)) few.at_most_64-left.ensures in
     λ i. record { word = (new i).z; next = (c.cleared.ensures ∙ ap packed moved) i }
 

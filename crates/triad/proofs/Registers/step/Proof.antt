@@ -31,9 +31,9 @@ returns c =
     (λ i.
     of_words (first.shifted.ensures i) new.step-new.result.a (second.shifted-2.ensures i) new.step-new.result.b
     (third.shifted-3.ensures i) new.step-new.result.c)
-    ∙ stepped r.a1 r.a0 r.b1 r.b0 r.c1 r.c0 p.message (omega (arith, start.well-formed))
-    (omega (arith, start.well-formed)) (omega (arith, start.well-formed)) (omega (arith, start.well-formed)) (omega (arith, start.well-formed))
-    (omega (arith, start.well-formed)) new.step-new.ensures in
+    ∙ stepped r.a1 r.a0 r.b1 r.b0 r.c1 r.c0 p.message (omega (arith, start.well_formed))
+    (omega (arith, start.well_formed)) (omega (arith, start.well_formed)) (omega (arith, start.well_formed)) (omega (arith, start.well_formed))
+    (omega (arith, start.well_formed)) new.step-new.ensures in
     λ i.
     record {
       bit = ((λ j. (new.step-new.ensures j).z) ∙ one_out _ (state r)) i;

@@ -43,7 +43,7 @@ loop-again c =
     let rest : ℕ = n - (l.at + 16) in
     let all : 16 + rest ≡ n - l.at = omega arith in (
       omega arith,
-      call.auto.1.0 ∙ l.invariant.1,
+      call.auto.bytes.0 ∙ l.invariant.1,
       skips_on old new 16 rest call.ensures.0 refl (omega arith) ∙ ap (skipping old) all ∙ l.invariant.2,
       further (state old) (state new) l.bytes _ l.at 16 (omega arith) call.ensures.0 call.ensures.1
           (omega arith)
@@ -51,7 +51,7 @@ loop-again c =
     )
 
 same_length : tie.Need-shape_of-bytes invariant-loop decreases-loop
-same_length c = c.before.before.cover_rest.auto.1.0 ∙ c.before.before.before.before.before.loop-at.invariant.1
+same_length c = c.before.before.cover_rest.auto.bytes.0 ∙ c.before.before.before.before.before.loop-at.invariant.1
 
 returns : tie.Need-returns invariant-loop decreases-loop
 unfolding covering running_from
@@ -65,7 +65,7 @@ returns c =
     let from : begun.result.registers ≡ p.self = ap (λ (x : Running). x.registers) begun.ensures in
     let next =
     call.ensures.0
-    ∙ ap (λ (n : ℕ). skipping l.loop.running.registers (n - l.loop.at)) l.loop.invariant.1
+    ∙ ap (λ (n : ℕ). skipping l.loop-at.running.registers (n - l.loop-at.at)) l.loop-at.invariant.1
     ∙ l.loop.invariant.2 ∙ ap (λ (r : Registers). skipping r (length bytes)) from in
     let last =
     call.ensures.1 ∙ l.loop.invariant.3 ∙ ap (λ (r : Registers). enciphered (keystream (state r)) bytes) from in

@@ -67,11 +67,11 @@ loop-again c =
     ∙ ap (λ (w : ℕ). put l.bytes place (under l.bytes place n w)) (λ i. (went i).word)
     ∙ ap (put l.bytes place) (run_read l.bytes place n (state old) few there l.invariant.2) in (
       omega (arith, took.at_most_eight-n.ensures),
-      done.cover.auto.0 ∙ l.invariant.1,
+      done.cover.auto.bytes ∙ l.invariant.1,
       (λ i. omega (arith, c.before.slice_known-in-loop-left-1.given i)),
       (λ i. (went i).next) ∙ ap packed (sym gone),
       skip_from old mid n rest gone ∙ ap (skipping old) all ∙ l.invariant.4,
-      further (state old) (state mid) l.bytes done.cover.new.0 place n there gone written on ∙ l.invariant.5,
+      further (state old) (state mid) l.bytes done.cover.new.bytes place n there gone written on ∙ l.invariant.5,
     )
 
 returns : tie.Need-returns invariant-loop decreases-loop
