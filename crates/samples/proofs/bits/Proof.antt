@@ -13,7 +13,7 @@ use Rattle.samples.proofs.bits.Tie as tie
 
 -- what the code sees of a sample is the sample
 seen : (z : ℤ) → SFits w16 z → to_z w16 (of_z w16 z) ≡ z
-seen z f = to_z-of_z f
+seen z f = to_z-of_z w16 z f
 
 -- a sample that is not below 0
 record Kept (z : ℤ) : Type 0 where

@@ -14,11 +14,11 @@ use Rattle.samples.proofs.signed.Tie as tie
 
 positive : (n : ℕ) → n < 32768 → to_z w16 n ≡ signed n
 unfolding signed
-positive n h = to_z_pos h ∙ rw (lt-ltb n 32768 h)
+positive n h = to_z_pos w16 n h ∙ rw (lt-ltb n 32768 h)
 
 -- the code's difference, for what is missing
 negative : (k : ℕ) → k < 32768 → negsuc 0 -ℤ to_z w16 k ≡ negsuc k
-negative k h = ap (λ (z : ℤ). negsuc 0 -ℤ z) (to_z_pos h) ∙ minus_one_less k
+negative k h = ap (λ (z : ℤ). negsuc 0 -ℤ z) (to_z_pos w16 k h) ∙ minus_one_less k
 
 negative_fits : (k : ℕ) → k < 32768 → SFits w16 (negsuc 0 -ℤ to_z w16 k)
 negative_fits k h = subst (SFits w16) (sym (negative k h)) (record { sfits = h })
@@ -37,7 +37,7 @@ returns-2 : tie.Need-returns
 returns-2 c =
     let n : ℕ = c.before.args.n in
     let small : 65535 - n < 32768 = omega arith in
-    to_z-of_z (negative_fits (65535 - n) small)
+    to_z-of_z w16 (negsuc 0 -ℤ to_z w16 (65535 - n)) (negative_fits (65535 - n) small)
     ∙ negative (65535 - n) small
     ∙ below_zero n (omega arith) (omega arith)
 

@@ -6,7 +6,7 @@ use native.Mathlib.Omega.{arith}
 use borrow.Author.{Rules.rules, Tests.not-true, Tests.not-false}
 use lib.ListN.{length}
 use Rattle.refusals.specs.Rules.{AllRight}
-use Rattle.refusals.proofs.{Faults.all_right, Faults.none_wrong, Faults.refused_so, Settled.first_here}
+use Rattle.refusals.proofs.{Faults.all_right, Faults.none_wrong, Faults.refused_so_lem, Settled.first_here}
 use Rattle.pack.specs.{Faults.part_name_faults, Faults.seal_faults, Layout.samples_good, Layout.loops_good}
 use Rattle.pack.proofs.Picking.{short_value}
 use Rattle.seal_faults.proofs.seal_fault.Statement.{statement}

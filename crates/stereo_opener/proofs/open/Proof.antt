@@ -18,7 +18,7 @@ use Rattle.pack.proofs.Theorems.{keyed_numbered}
 use Rattle.surveyor.proofs.Lacking.{lacking_so}
 use Rattle.opener.proofs.Told.{found, lacks_told, right, none_broken, answered, Known, known, deciphered}
 use Rattle.stereo_opener.specs.Calls.{stereo_faults, opening_stereo}
-use Rattle.stereo_opener.proofs.{Order.numbered_stereo, Order.after_keyed, Order.survey_counts}
+use Rattle.stereo_opener.proofs.{Order.numbered_stereo, Order.after_keyed_lem, Order.survey_counts}
 use Rattle.stereo_opener.proofs.open.Statement.{statement}
 use Rattle.stereo_opener.proofs.open.Tie as tie
 

@@ -8,7 +8,7 @@ use Rattle.taps.specs.Keystream.{bits}
 use Rattle.taps.specs.Registers.{State, moved, next, steps, output_bit}
 use Rattle.taps.specs.Words.{joined, of_words, newest}
 use Rattle.shift_registers.proofs.Words.{Reads, reads_words, lower_moved}
-use Rattle.taps.proofs.{Words.bits_by, step.Statement.statement}
+use Rattle.taps.proofs.{Words.bits_by_lem, step.Statement.statement}
 use Rattle.taps.proofs.step.Tie as tie
 
 -- one bit comes in, whatever the register: p is what its upper word has of it

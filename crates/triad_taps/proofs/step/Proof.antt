@@ -4,7 +4,7 @@ use native.Mathlib.{Nat.add-zero, Omega.arith}
 use Rattle.octets.specs.LowFirst.{number_up}
 use Rattle.shift_registers.specs.{Registers.State, Steps.steps_by, Steps.bits_by}
 use Rattle.triad_taps.specs.{Update.next, Update.output_bit, Words.of_words, Words.newest}
-use Rattle.triad_taps.proofs.{Turned.reads_turned, Turned.bit_in, Words.bits_by, step.Statement.statement}
+use Rattle.triad_taps.proofs.{Turned.reads_turned, Turned.bit_in, Words.bits_by_lem, step.Statement.statement}
 use Rattle.triad_taps.proofs.step.Tie as tie
 
 returns : tie.Need-returns
