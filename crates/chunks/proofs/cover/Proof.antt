@@ -52,7 +52,7 @@ unfolding ahead enocoro.covering
 returns-2 c =
     let covered = c.before.before in
     let told = covered.before.before.before in
-    let s = told.before.before in
+    let s = told.before in
     as_told s _ (Enocoro covered.cover-in-Enocoro.result) told.cipher-in-Enocoro-1.given.1
     (by_own Enocoro enocoro.answered enocoro.skipping EnocoroLaws.stream_skip _ s.args.bytes.now
     covered.cover-in-Enocoro.ensures)

@@ -6,10 +6,10 @@ use Rattle.triad_runs.proofs.cover_at.Tie as tie
 
 returns : tie.Need-returns
 returns c =
-    let written = c.before.before in
+    let written = c.before in
     let read = written.before.before in
     let known = read.before.before in
-    let p = known.args in
+    let p = known.before.args in
     covers_at p.bytes.now p.at p.n p.stream (omega arith) (omega arith)
     (λ i. omega (arith, known.slice_known-1.given i)) read.number_at-read.ensures written.write_number.ensures
     (omega arith)

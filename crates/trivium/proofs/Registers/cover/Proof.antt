@@ -43,7 +43,7 @@ loop-again c =
     let rest : ℕ = n - (l.at + 16) in
     let all : 16 + rest ≡ n - l.at = omega arith in (
       omega arith,
-      call.auto.bytes.0 ∙ l.invariant.1,
+      call.auto.bytes ∙ l.invariant.1,
       skips_on old new 16 rest call.ensures.0 refl (omega arith) ∙ ap (skipping old) all ∙ l.invariant.2,
       further (state old) (state new) l.bytes _ l.at 16 (omega arith) call.ensures.0 call.ensures.1
           (omega arith)
@@ -51,7 +51,7 @@ loop-again c =
     )
 
 same_length : tie.Need-shape_of-bytes invariant-loop decreases-loop
-same_length c = c.before.before.cover_rest.auto.bytes.0 ∙ c.before.before.before.before.before.loop-at.invariant.1
+same_length c = c.before.before.cover_rest.auto.bytes ∙ c.before.before.before.before.before.loop-at.invariant.1
 
 returns : tie.Need-returns invariant-loop decreases-loop
 unfolding covering running_from
@@ -66,9 +66,9 @@ returns c =
     let next =
     call.ensures.0
     ∙ ap (λ (n : ℕ). skipping l.loop-at.running.registers (n - l.loop-at.at)) l.loop-at.invariant.1
-    ∙ l.loop.invariant.2 ∙ ap (λ (r : Registers). skipping r (length bytes)) from in
+    ∙ l.loop-at.invariant.2 ∙ ap (λ (r : Registers). skipping r (length bytes)) from in
     let last =
-    call.ensures.1 ∙ l.loop.invariant.3 ∙ ap (λ (r : Registers). enciphered (keystream (state r)) bytes) from in
+    call.ensures.1 ∙ l.loop-at.invariant.3 ∙ ap (λ (r : Registers). enciphered (keystream (state r)) bytes) from in
     λ i. outcome (next i) (last i)
 
 pub cover_spec : {M : Type 1} → statement M

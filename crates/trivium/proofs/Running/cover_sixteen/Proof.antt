@@ -16,7 +16,7 @@ use Rattle.trivium.proofs.Running.cover_sixteen.Tie as tie
 
 returns : tie.Need-returns
 returns c =
-    let put2 = c.before.before.before in
+    let put2 = c.before.before in
     let turn2 = put2.before in
     let put1 = turn2.before.before.before.before in
     let turn1 = put1.before in
@@ -25,7 +25,7 @@ returns c =
     let read2 = stride1.before in
     let read1 = read2.before.before in
     let known = read1.before.before in
-    let p = known.args in
+    let p = known.before.args in
     let bytes : List ℕ = p.bytes.now in
     let below : Below 256 bytes = λ i. omega (arith, known.slice_known-1.given i) in
     let one : Ran = stride1.stride-one.result in
@@ -35,7 +35,7 @@ returns c =
     let s : State = state p.self.registers in
     let mid : State = state one.next.registers in
     let on : mid ≡ steps 64 s = ran_state p.self one ran1 in
-    let left : List ℕ = put1.write_low.new.0 in
+    let left : List ℕ = put1.write_low.new.d in
     let first : left ≡ put bytes p.at (under bytes p.at 8 one.word) =
     put1.write_low.ensures
     ∙ ap (put bytes p.at)
