@@ -41,9 +41,9 @@ returns : tie.Need-returns-in-Trivium
 unfolding ahead trivium.covering
 returns c =
     let covered = c.before.before in
-    let told = covered.before.before.before in
-    let s = told.before in
-    as_told s _ (Trivium covered.cover.result) told.cipher-1.given.1
+    let told = covered.before.before in
+    let s = told.before.before in
+    as_told s _ (Trivium covered.cover.result) told.in-Trivium.is
     (by_own Trivium trivium.answered trivium.skipping TriviumLaws.goes_on _ s.args.bytes.now
     covered.cover.ensures)
 
@@ -51,9 +51,9 @@ returns-2 : tie.Need-returns-in-Enocoro
 unfolding ahead enocoro.covering
 returns-2 c =
     let covered = c.before.before in
-    let told = covered.before.before.before in
-    let s = told.before in
-    as_told s _ (Enocoro covered.cover-in-Enocoro.result) told.cipher-in-Enocoro-1.given.1
+    let told = covered.before.before in
+    let s = told.before.before in
+    as_told s _ (Enocoro covered.cover-in-Enocoro.result) told.in-Enocoro.is
     (by_own Enocoro enocoro.answered enocoro.skipping EnocoroLaws.stream_skip _ s.args.bytes.now
     covered.cover-in-Enocoro.ensures)
 
@@ -61,9 +61,9 @@ returns-3 : tie.Need-returns-in-Triad
 unfolding ahead triad.covering
 returns-3 c =
     let covered = c.before.before in
-    let told = covered.before.before.before in
-    let s = told.before in
-    as_told s _ (Triad covered.cover-in-Triad.result) told.cipher-in-Triad-1.given.1
+    let told = covered.before.before in
+    let s = told.before.before in
+    as_told s _ (Triad covered.cover-in-Triad.result) told.in-Triad.is
     (by_own Triad triad.answered triad.skipping TriadLaws.goes_on _ s.args.bytes.now
     covered.cover-in-Triad.ensures)
 

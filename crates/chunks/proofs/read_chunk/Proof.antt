@@ -33,14 +33,14 @@ long v = let p = (start v).args in length_slice p.body.now p.at p.size (omega ar
 
 -- the chunk holds them deciphered at its front
 filled : (v : tie.After-cover-next)
-    → v.cover-next.new.bytes.0 ++ drop ((start v).args.size - 0) v.before.before.before.copy.new.0
+    → v.cover-next.new.bytes ++ drop ((start v).args.size - 0) v.before.before.before.copy.new.d
     ≡ put (blank v) 0 (plain v)
 filled v =
     let copy = v.before.before.before in
     let n : ℕ = (start v).args.size - 0 in
     let size : length (bytes v) ≡ (start v).args.size = long v in
-    ap (λ (l : List ℕ). l ++ drop n copy.copy.new.0) v.cover-next.ensures.1
-    ∙ in_place (ahead (start v).args.cipher) (blank v) (bytes v) copy.copy.new.0 0 n
+    ap (λ (l : List ℕ). l ++ drop n copy.copy.new.d) v.cover-next.ensures.1
+    ∙ in_place (ahead (start v).args.cipher) (blank v) (bytes v) copy.copy.new.d 0 n
     (copy.copy.ensures ∙ ap (put (blank v) 0) copy.before.slice.ensures) (omega arith) (omega arith)
 
 -- so they are read from there

@@ -32,7 +32,7 @@ returns-3 c =
     let run : List ℕ = bytes_of_all p.samples.now in
     let long : length run ≡ 2 * length p.samples.now = length_bytes p.samples.now in
     let n : ℕ = at + 2 * length p.samples.now - at in
-    let left : List ℕ = take at d ++ (written.write_words.new.close.0 ++ drop (length d - at) (drop at d)) in
+    let left : List ℕ = take at d ++ (written.write_words.new.output ++ drop (length d - at) (drop at d)) in
     let done : left ≡ put d at run =
     ap (λ (l : List ℕ). take at d ++ (l ++ drop (length d - at) (drop at d))) written.write_words.ensures
     ∙ put_part d at run (omega arith) in

@@ -45,12 +45,12 @@ loop-again c =
     let more = further level_from (ahead p.start) p.body.now p.output.now l.output l.at 1024
     (omega arith) (omega arith) (omega arith) l.invariant.3 l.invariant.4 m.read_chunk-cipher.ensures.0
     m.read_chunk-cipher.ensures.1 in
-    (omega arith, omega arith, m.read_chunk-cipher.auto.output.1.0 ∙ l.invariant.2, more.0, more.1)
+    (omega arith, omega arith, m.read_chunk-cipher.auto.output ∙ l.invariant.2, more.0, more.1)
 
 same_length : tie.Need-shape_of-output invariant-loop decreases-loop
 same_length c =
     let m = c.before.before in
-    m.read_chunk.auto.output.1.0 ∙ m.before.before.before.loop-at.invariant.2
+    m.read_chunk.auto.output ∙ m.before.before.before.loop-at.invariant.2
 
 returns-3 : tie.Need-returns invariant-loop decreases-loop
 unfolding reading_frames
