@@ -1,3 +1,5 @@
+#![tactic(auto)]
+
 // Where the bodies of packs begin: their cipher, under the key of its ring that a pack names, and with its initial
 // value.
 ghost use Rattle.std.specs.Prelude.{◌≡◌, ◌≤◌, length};

@@ -1,3 +1,5 @@
+#![tactic(auto)]
+
 // Bodies of samples under a cipher's keystream, whichever cipher it is: enciphered bytes, read as samples chunk by
 // chunk, and samples, written as enciphered bytes.
 ghost use Rattle.std.specs.Prelude.{◌≡◌, ◌+◌, ◌/◌, ◌≤◌, length};

@@ -1,3 +1,5 @@
+#![tactic(auto)]
+
 // The sound of the demo packs, four voices that hold a chord, and the rings of keys that the packs are sealed under.
 ghost use Rattle.std.specs.Prelude.{◌≡◌, ◌<◌, length};
 

@@ -1,3 +1,5 @@
+#![tactic(auto)]
+
 // What a file has wrong from its loop section on: the rules on loops, tag and end in their order.
 ghost use Rattle.std.specs.Prelude.{◌≡◌, ◌+◌, ◌*◌, ◌≤◌, length};
 ghost use Rattle.octets.specs.Digits.{number_at};

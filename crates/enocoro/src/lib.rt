@@ -1,3 +1,5 @@
+#![tactic(auto)]
+
 ghost use Rattle.std.specs.Prelude.{◌≡◌, ◌+◌, ◌-◌, ◌≤◌, min, length};
 ghost use Rattle.octets.specs.Digits.{number_at, word};
 ghost use Rattle.refusals.specs.Outcome.{outcome};

@@ -1,3 +1,5 @@
+#![tactic(auto)]
+
 // Runs of bytes under Enocoro's keystream, from one buffer to another, and what goes over bytes that nobody reads.
 ghost use Rattle.std.specs.Prelude.{◌≡◌, min, length};
 ghost use Rattle.refusals.specs.Outcome.{outcome};

@@ -1,3 +1,5 @@
+#![tactic(auto)]
+
 ghost use Rattle.std.specs.Prelude.{◌≡◌, [], ◌∷◌};
 ghost use Rattle.octets.specs.Buffers.{put};
 ghost use Rattle.octets.specs.Rows.{row};

@@ -1,3 +1,5 @@
+#![tactic(auto)]
+
 // Inspecting a pack: what its survey and its tag say to one who has keys.
 ghost use Rattle.std.specs.Prelude.{not, ◌≡◌, eqb};
 ghost use Rattle.triad.specs.Tag.{triad};

@@ -1,3 +1,5 @@
+#![tactic(auto)]
+
 // What the records of both link ends say of their transfer, for callers in other languages, who keep them as bytes. A
 // refused call writes nothing.
 ghost use Rattle.std.specs.Prelude.{◌≡◌, cond, ◌&&◌, [], ◌∷◌, eqb};

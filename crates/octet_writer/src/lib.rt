@@ -1,3 +1,5 @@
+#![tactic(auto)]
+
 // Runs and numbers written to a lent buffer where they have room, and otherwise nothing.
 ghost use Rattle.std.specs.Prelude.{◌≡◌, ◌/◌, ◌%◌, ◌^◌};
 ghost use Rattle.std.specs.Int.Bits.{bit_xor};

@@ -1,3 +1,5 @@
+#![tactic(auto)]
+
 // What a file has wrong: the rules on a pack in their order, apart from what is done with one that is right. Where the
 // file breaks off, the verdict says in which section, and how many bytes are missing of its count or else of its body.
 // Of the first two counts, of one byte, it is that one, since a section is read from where the one before it ends.

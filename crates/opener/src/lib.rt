@@ -1,3 +1,5 @@
+#![tactic(auto)]
+
 // Opening a pack: its samples, once nothing is wrong with it and there is room.
 ghost use Rattle.std.specs.Prelude.{◌≡◌};
 ghost use Rattle.pack.specs.Calls.{opening_file};

@@ -1,3 +1,5 @@
+#![tactic(auto)]
+
 ghost use Rattle.std.specs.Prelude.{◌≡◌};
 ghost use Rattle.pack.specs.Calls.{refused_opening};
 ghost use Rattle.pack.specs.Ciphers.{cipher_of, count_of, picked};

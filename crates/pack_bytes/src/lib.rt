@@ -1,3 +1,5 @@
+#![tactic(auto)]
+
 // Packs for callers in other languages, who lend the rings of keys as one run of bytes. A refused call writes nothing
 // of all that it was lent.
 ghost use Rattle.std.specs.Prelude.{◌≡◌};

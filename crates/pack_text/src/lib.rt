@@ -1,3 +1,5 @@
+#![tactic(auto)]
+
 // What the reading program prints, as bytes: lines with a word and a name or a number.
 ghost use Rattle.std.specs.Prelude.{◌+◌, ◌/◌, ◌%◌, ◌^◌, ◌≤◌, ◌≡◌, length};
 ghost use Rattle.octets.specs.Buffers.{put};

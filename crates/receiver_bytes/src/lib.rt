@@ -1,3 +1,5 @@
+#![tactic(auto)]
+
 // The receiver for callers in other languages, who keep its record as bytes. A refused call writes nothing of all that
 // it was lent.
 ghost use Rattle.std.specs.Prelude.{◌≡◌};

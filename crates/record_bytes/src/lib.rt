@@ -1,3 +1,5 @@
+#![tactic(auto)]
+
 // What records that a caller keeps as bytes have in common.
 ghost use Rattle.std.specs.Prelude.{◌≡◌};
 ghost use Rattle.octets.specs.Buffers.{put};

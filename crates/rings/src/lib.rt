@@ -1,3 +1,5 @@
+#![tactic(auto)]
+
 // The rings of keys, from the run of bytes that callers and the reading program have: Trivium's four keys, behind them
 // Enocoro's, and behind these TRIAD's.
 ghost use Rattle.std.specs.Prelude.{◌≡◌, ◌+◌, ◌≤◌, length, replicate};

@@ -1,3 +1,5 @@
+#![tactic(auto)]
+
 // Runs of samples, read from bytes and written as bytes where they have room.
 ghost use Rattle.std.specs.Prelude.{◌≡◌, ◌/◌, ◌≤◌, length};
 ghost use Rattle.octets.specs.Buffers.{put};

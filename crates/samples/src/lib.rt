@@ -1,3 +1,5 @@
+#![tactic(auto)]
+
 ghost use Rattle.std.specs.Prelude.{reverse, ◌≡◌, ◌+◌, ◌≤◌, length};
 ghost use Rattle.octets.specs.Buffers.{slice};
 ghost use Rattle.octets.specs.Digits.{number};

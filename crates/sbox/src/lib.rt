@@ -1,3 +1,5 @@
+#![tactic(auto)]
+
 // The substitution S8 as its table in print, and doubling in the field of bytes.
 ghost use Rattle.std.specs.Prelude.{◌≡◌};
 ghost use Rattle.sbox.specs.Field as Field;

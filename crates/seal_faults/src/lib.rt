@@ -1,3 +1,5 @@
+#![tactic(auto)]
+
 // What the parts of a pack have wrong: the rules on them in their order, apart from how they are written.
 ghost use Rattle.std.specs.Prelude.{cond, ◌≡◌, ◌+◌, ◌*◌, ◌%◌, ◌≤◌, length};
 ghost use Rattle.pack.specs.Ciphers.{cipher_of};

@@ -1,3 +1,5 @@
+#![tactic(auto)]
+
 // Sealing a sound: the sections of its pack, written one behind the other where nothing is wrong.
 ghost use Rattle.std.specs.Prelude.{[], ◌∷◌, ◌++◌, ◌≡◌, suc, ◌+◌, ◌*◌, ◌/◌, ◌≤◌, length};
 ghost use Rattle.octets.specs.Buffers.{put};

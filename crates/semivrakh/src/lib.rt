@@ -1,3 +1,5 @@
+#![tactic(auto)]
+
 // The C interface: what include/semivrakh.h tells a C program about. Each function hands on what it is lent; records
 // travel as bytes that the caller keeps, and a refused call writes nothing of all that it was lent.
 ghost use Rattle.std.specs.Prelude.{◌≡◌};

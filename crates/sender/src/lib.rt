@@ -1,3 +1,5 @@
+#![tactic(auto)]
+
 ghost use Rattle.std.specs.Prelude.{◌≡◌, List, cond, not, ℕ, length};
 ghost use Rattle.refusals.specs.Numbers.{accepted, no_transfer, out_of_rule};
 ghost use Rattle.refusals.specs.Outcome.{outcome};

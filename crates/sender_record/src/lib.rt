@@ -1,3 +1,5 @@
+#![tactic(auto)]
+
 // A sender as bytes: the front of a link end's record, then its phase and how many blocks are known to be held.
 ghost use Rattle.std.specs.Prelude.{◌≡◌, [], ◌∷◌};
 ghost use Rattle.octets.specs.Buffers.{put};

@@ -1,3 +1,5 @@
+#![tactic(auto)]
+
 // Samples as floats of 32 bits, by frames of a left and a right one.
 ghost use Rattle.std.specs.Prelude.{◌≡◌};
 ghost use Rattle.octets.specs.Buffers.{put};

@@ -1,3 +1,5 @@
+#![tactic(auto)]
+
 // Bodies of samples under a cipher's keystream, read as frames of floats: chunk by chunk, so that no buffer of samples
 // is asked of a caller.
 ghost use Rattle.std.specs.Prelude.{◌≡◌, ◌+◌, ◌/◌, ◌%◌, ◌≤◌, length};

@@ -1,3 +1,5 @@
+#![tactic(auto)]
+
 // Opening a pack for the voice engine: its frames of floats, once nothing is wrong with it, they are whole, and there is
 // room.
 ghost use Rattle.std.specs.Prelude.{◌≡◌};

@@ -1,3 +1,5 @@
+#![tactic(auto)]
+
 // What a pack file says of itself, for callers in other languages, who lend runs for it. A refused call writes nothing
 // of all that it was lent.
 ghost use Rattle.std.specs.Prelude.{◌≡◌, List, ◌++◌, ℕ, ◌+◌, ◌*◌, ◌≤◌, length};

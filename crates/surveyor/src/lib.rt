@@ -1,3 +1,5 @@
+#![tactic(auto)]
+
 // Surveying a pack: what its faults decide, and where its parts stand.
 ghost use Rattle.std.specs.Prelude.{◌≡◌};
 ghost use Rattle.pack.specs.Calls.{surveying_file};

@@ -1,3 +1,5 @@
+#![tactic(auto)]
+
 // What the test programs share. A program reads rows from standard input, one on a line, and one loop runs them all:
 //
 //     line(rows, n)                the n-th line, from 0; an empty one is behind the last

@@ -1,3 +1,5 @@
+#![tactic(auto)]
+
 // Packs, a row for each case, by the row's first word:
 //
 //     open LABEL FILE ROOM KEYS

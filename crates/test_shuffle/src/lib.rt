@@ -1,3 +1,5 @@
+#![tactic(auto)]
+
 // Words that look random, for test programs.
 ghost use Rattle.std.specs.Prelude.{◌≡◌};
 ghost use Rattle.test_shuffle.specs.Shuffles.{shuffling};

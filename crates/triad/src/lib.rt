@@ -1,3 +1,5 @@
+#![tactic(auto)]
+
 ghost use Rattle.std.specs.Prelude.{[], ◌∷◌, ◌≡◌, ◌<◌, min, length};
 ghost use Rattle.octets.specs.Digits.{number};
 ghost use Rattle.triad.specs.Calls.{refused_making, making_by, making_cipher, making_tag, stepping, striding};

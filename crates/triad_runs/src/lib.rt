@@ -1,3 +1,5 @@
+#![tactic(auto)]
+
 // Runs of bytes on TRIAD's registers: covered by the keystream, and taken in for a tag. In each loop the registers move
 // word by word and clear nothing, and a part of a stride behind it takes what is left and clears what they leave.
 ghost use Rattle.std.specs.Prelude.{reverse, ◌≡◌, ◌+◌, ◌≤◌, length, get_or};

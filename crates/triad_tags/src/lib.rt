@@ -1,3 +1,5 @@
+#![tactic(auto)]
+
 // The tag over a whole pack under TRIAD.
 ghost use Rattle.std.specs.Prelude.{◌++◌, reverse, ◌≡◌, length};
 ghost use Rattle.octets.specs.Digits.{digits};

@@ -1,3 +1,5 @@
+#![tactic(auto)]
+
 // TRIAD's update function on words that stand turned: the newest bit of a word is its most significant. `a1` is the
 // older word of a register and `a0` the newer.
 ghost use Rattle.std.specs.Prelude.{[], ◌∷◌, ◌≡◌, ◌%◌};

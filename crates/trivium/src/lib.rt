@@ -1,3 +1,5 @@
+#![tactic(auto)]
+
 ghost use Rattle.std.specs.Prelude.{◌≡◌, ◌+◌, ◌-◌, ◌≤◌, min, length, drop};
 ghost use Rattle.octets.specs.Buffers.{slice, put};
 ghost use Rattle.octets.specs.Stream.{enciphered};

@@ -1,3 +1,5 @@
+#![tactic(auto)]
+
 // Where in its keystream a Trivium cipher stands: made at the start of it or further on, and moved on.
 ghost use Rattle.std.specs.Prelude.{◌≡◌, ◌*◌, length};
 ghost use Rattle.trivium.specs.Calls.{refused_making, making_cipher, making_at, skipping};
