@@ -1,8 +1,11 @@
+#![tactic(auto)]
+
 // Makes the demo pack of the rack: the demo sound, sealed under an Enocoro key of the demo ring, written to standard
 // output.
 use pack::Kind;
+use std::io;
 
-fn main() {
+fn main(rt: HostRuntime) -> io::Result<()> {
     let sound = demo_sound::choir();
     let keys = demo_sound::KEYS;
     let rack_keys = demo_sound::RACK_KEYS;
@@ -21,5 +24,5 @@ fn main() {
         &mut file,
     );
     let length = sealed.length;
-    io::write_all(1, octets::slice(&file, 0, length));
+    rt.write_all(octets::slice(&file, 0, length))
 }

@@ -1,11 +1,20 @@
-// Reads all keys and then a pack from standard input, and prints the text about them.
+#![tactic(auto)]
 
-// The first buffer holds the keys and more than the longest pack. A longer input is refused by what stands in its
-// front, so what is not read changes nothing. The second holds more than the longest text.
-fn main() {
-    let mut input = io::large_buffer();
-    let got = io::read_full(0, &mut input);
-    let mut text = io::buffer();
-    let length = pack_text::describe(octets::slice(&input, 0, got), &mut text);
-    io::write_all(1, octets::slice(&text, 0, length));
+// Reads all keys and then a pack from standard input, and prints the text about them.
+use std::io;
+use std::io::Read;
+
+// More than the keys and the longest pack. A longer input is refused by what stands in its front, so what is not read
+// changes nothing.
+const MOST_BYTES: u64 = 65536;
+
+// More than the longest text.
+const ROOM: usize = 4096;
+
+fn main(rt: HostRuntime) -> io::Result<()> {
+    let mut input = Vec::new(rt.alloc());
+    rt.reader().take(MOST_BYTES).read_to_end(&mut input)?;
+    let mut text = [0; ROOM];
+    let length = pack_text::describe(&input, &mut text);
+    rt.write_all(octets::slice(&text, 0, length))
 }
