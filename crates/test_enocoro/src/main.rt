@@ -1,3 +1,5 @@
+#![tactic(auto)]
+
 // Enocoro-128v2 by rows: the standard's test vectors, and how calls fit together. The program keeps registers. A row
 // sets them, or is a case that sets out from them; its first letter tells which:
 //
@@ -16,6 +18,7 @@
 ghost use Rattle.std.specs.Prelude.{◌≡◌, length};
 
 use enocoro::{Made, Registers};
+use std::io;
 
 fn untouched() -> [u8; 48]
     ensures { 48 ≡ length result }
@@ -34,20 +37,21 @@ fn zeros() -> Registers {
     }
 }
 
-fn show(x: Registers) {
-    io::write_all(1, b" ");
-    io::print_hex(1, x.a0 as u64, 2);
-    io::print_hex(1, x.a1 as u64, 2);
-    io::write_all(1, b" ");
-    io::print_hex(1, x.b0, 16);
-    io::print_hex(1, x.b1, 16);
-    io::print_hex(1, x.b2, 16);
-    io::print_hex(1, x.b3, 16);
+fn show(rt: &impl Print, x: Registers) -> io::Result<()> {
+    let Registers {
+        a0,
+        a1,
+        b0,
+        b1,
+        b2,
+        b3,
+    } = x;
+    print!(rt; " {a0:02x}{a1:02x} {b0:016x}{b1:016x}{b2:016x}{b3:016x}")
 }
 
-fn show_made(made: Made) -> Registers {
-    test_kit::print_number(b" ", made.refusal as u64);
-    made.registers
+fn show_made(rt: &impl Print, made: Made) -> io::Result<Registers> {
+    test_kit::print_number(rt, b" ", made.refusal as u64)?;
+    Ok(made.registers)
 }
 
 // A round before the keystream begins: its counter goes into the last byte b first.
@@ -66,11 +70,11 @@ fn blank(from: Registers, counter: u8) -> Registers {
 }
 
 // One round, with its byte.
-fn once(from: Registers) -> Registers {
+fn once(rt: &impl Print, from: Registers) -> io::Result<Registers> {
     let rounded = enocoro_runs::round(from);
-    io::write_all(1, b" ");
-    io::print_hex(1, rounded.byte as u64, 2);
-    rounded.next
+    let byte = rounded.byte;
+    print!(rt; " {byte:02x}")?;
+    Ok(rounded.next)
 }
 
 fn same(x: Registers, y: Registers) -> bool {
@@ -85,11 +89,16 @@ fn skips_agree(from: Registers, input: &[u8], bytes: usize) -> bool {
 }
 
 // Contents of which each but the first has a new word, and the words of the one before it a place further.
-fn differ(from: Registers, input: &[u8], bytes: usize, count: usize) {
+fn differ(
+    rt: &impl Print,
+    from: Registers,
+    input: &[u8],
+    bytes: usize,
+    count: usize,
+) -> io::Result<()> {
     let mut contents = from;
     let mut differ: u64 = 0;
-    let mut left = count;
-    while 0 < left {
+    for _ in 0..count {
         if !skips_agree(contents, input, bytes) {
             differ = std::num::wrapping_add_u64(differ, 1);
         }
@@ -102,93 +111,106 @@ fn differ(from: Registers, input: &[u8], bytes: usize, count: usize) {
             b2: last.b1,
             b3: last.b2,
         };
-        left -= 1;
     }
-    test_kit::print_number(b" differ ", differ);
+    test_kit::print_number(rt, b" differ ", differ)
 }
 
 // An array's length is known where it is lent as an array, also after a part of it was lent.
-fn show_output(output: &[u8; 48], room: usize) {
-    io::write_all(1, b" ");
-    test_kit::print_bytes(octets::slice(output, 0, room));
+fn show_output(rt: &impl Print, output: &[u8; 48], room: usize) -> io::Result<()> {
+    rt.write_all(b" ")?;
+    test_kit::print_bytes(rt, octets::slice(output, 0, room))
 }
 
-fn encipher(from: Registers, input: &[u8], output_bytes: usize) -> Registers {
+fn encipher(
+    rt: &impl Print,
+    from: Registers,
+    input: &[u8],
+    output_bytes: usize,
+) -> io::Result<Registers> {
     let mut output = untouched();
     let room = output_bytes % 49;
     let enciphered = enocoro_runs::encipher(from, input, &mut output[0..room]);
-    test_kit::print_number(b" ", enciphered.refusal as u64);
-    show_output(&output, room);
-    enciphered.next
+    test_kit::print_number(rt, b" ", enciphered.refusal as u64)?;
+    show_output(rt, &output, room)?;
+    Ok(enciphered.next)
 }
 
 // A case, which sets nothing.
-fn try_case(kept: Registers, letter: u8, bytes: &[u8], n: usize, count: usize) {
+fn try_case(
+    rt: &impl Print,
+    kept: Registers,
+    letter: u8,
+    bytes: &[u8],
+    n: usize,
+    count: usize,
+) -> io::Result<()> {
     match letter {
-        b'e' => show(encipher(kept, bytes, n)),
+        b'e' => show(rt, encipher(rt, kept, bytes, n)?),
         b'c' => {
             let rest = octets::slice(bytes, n, 48);
-            show(encipher(
-                encipher(kept, octets::slice(bytes, 0, n), n),
-                rest,
-                rest.len(),
-            ));
+            let half = encipher(rt, kept, octets::slice(bytes, 0, n), n)?;
+            show(rt, encipher(rt, half, rest, rest.len())?)
         }
         _ => {
-            show(enocoro_runs::skip(kept, n));
-            differ(kept, bytes, n, count);
+            show(rt, enocoro_runs::skip(kept, n))?;
+            differ(rt, kept, bytes, n, count)
         }
     }
 }
 
 // A row, with its bytes and numbers. It answers the registers from which the next row sets out.
-fn run(kept: Registers, letter: u8, bytes: &[u8], n: usize, count: usize) -> Registers {
+fn run(
+    rt: &impl Print,
+    kept: Registers,
+    letter: u8,
+    bytes: &[u8],
+    n: usize,
+    count: usize,
+) -> io::Result<Registers> {
     let rest = octets::slice(bytes, n, 48);
     let first = octets::slice(bytes, 0, n);
     let next = match letter {
-        b'l' => show_made(Registers::load(first, rest)),
-        b'm' => show_made(Registers::new(first, rest)),
+        b'l' => show_made(rt, Registers::load(first, rest))?,
+        b'm' => show_made(rt, Registers::new(first, rest))?,
         b'b' => blank(kept, (n % 256) as u8),
-        b'o' => once(kept),
+        b'o' => once(rt, kept)?,
         b'j' => enocoro_runs::skip(kept, n),
         _ => {
-            try_case(kept, letter, bytes, n, count);
-            return kept;
+            try_case(rt, kept, letter, bytes, n, count)?;
+            return Ok(kept);
         }
     };
-    show(next);
-    next
+    show(rt, next)?;
+    Ok(next)
 }
 
-fn run_line(kept: Registers, row: &[u8], letter: u8) -> Registers {
+fn run_line(rt: &impl Print, kept: Registers, row: &[u8], letter: u8) -> io::Result<Registers> {
     let mut room = untouched();
     let n = test_kit::field_number(row, 2);
     let count = test_kit::field_number(row, 3);
     let bytes = test_kit::field_bytes(row, 1, &mut room);
-    io::write_all(1, row);
-    io::write_all(1, b":");
-    let next = run(kept, letter, bytes, n as usize, count as usize);
-    io::write_all(1, b"\n");
-    next
+    rt.write_all(row)?;
+    rt.write_all(b":")?;
+    let next = run(rt, kept, letter, bytes, n as usize, count as usize)?;
+    rt.write_all(b"\n")?;
+    Ok(next)
 }
 
-fn run_all(rows: &[u8]) {
+fn run_all(rt: &impl Print, rows: &[u8]) -> io::Result<()> {
     let mut kept = zeros();
-    let mut i = 0;
-    while i < rows.len() {
+    for i in 0..rows.len() {
         let row = test_kit::line(rows, i);
         if row.len() == 0 {
-            return;
+            break;
         }
-        if !test_kit::heading(row) {
-            kept = run_line(kept, row, row[0]);
+        if !test_kit::heading(rt, row)? {
+            kept = run_line(rt, kept, row, row[0])?;
         }
-        i += 1;
     }
+    Ok(())
 }
 
-fn main() {
-    let mut input = io::large_buffer();
-    let got = io::read_full(0, &mut input);
-    run_all(&input[..got]);
+fn main(rt: HostRuntime) -> io::Result<()> {
+    let rows = test_kit::read_rows(&rt)?;
+    run_all(&rt, &rows)
 }

@@ -2,18 +2,23 @@
 
 // What the test programs share. A program reads rows from standard input, one on a line, and one loop runs them all:
 //
+//     read_rows(rt)                all of standard input
 //     line(rows, n)                the n-th line, from 0; an empty one is behind the last
-//     heading(line)                prints a line that begins with `#` as it is, and answers whether it did
+//     heading(rt, line)            prints a line that begins with `#` as it is, and answers whether it did
 //     field(line, n)               the n-th word of a row, from 0; empty if there is none
 //     field_number(line, n)        the decimal number that it is
 //     field_bytes(line, n, room)   the bytes that it spells, in the room that is lent for them and as far as that goes:
 //                                  `-` none, `0102ff` digits in pairs, `5aa5*40` a run over and over to 40 bytes,
 //                                  `'some_value` letters with `_` for a space, and `+` between parts of these
-//     print_bytes(bytes)           bytes in pairs of digits, `-` for none
-//     print_number(word, n)        a word and a decimal number behind it
+//     print_bytes(rt, bytes)       bytes in pairs of digits, `-` for none
+//     print_number(rt, word, n)    a word and a decimal number behind it
 //
-// None of these has a contract for what it reads or prints, and docs/DECISIONS.md says why.
+// None of these has a contract for what it reads or prints, and docs/DECISIONS.md says why. What reads or prints answers
+// an error where that fails, with which a program ends.
 ghost use Rattle.std.specs.Prelude.{◌<◌};
+
+use std::io;
+use std::io::Read;
 
 // What each byte of an output is before a call, to see whether the call writes it.
 pub const UNTOUCHED: u8 = 0xa5;
@@ -23,8 +28,7 @@ pub const UNTOUCHED: u8 = 0xa5;
 fn part(text: &[u8], by: u8, n: usize) -> &[u8] {
     let mut from = 0;
     let mut left = n;
-    let mut i = 0;
-    while i < text.len() {
+    for i in 0..text.len() {
         if text[i] == by {
             if left == 0 {
                 return octets::slice(text, from, std::num::wrapping_sub_usize(i, from));
@@ -32,12 +36,18 @@ fn part(text: &[u8], by: u8, n: usize) -> &[u8] {
             left -= 1;
             from = i + 1;
         }
-        i += 1;
     }
     if 0 < left {
         return &text[..0];
     }
     octets::slice(text, from, text.len())
+}
+
+// All of standard input.
+pub fn read_rows(rt: &(impl Input + AllocGlobal)) -> io::Result<Vec<u8>> {
+    let mut rows = Vec::new(rt.alloc());
+    rt.reader().read_to_end(&mut rows)?;
+    Ok(rows)
 }
 
 pub fn line(rows: &[u8], n: usize) -> &[u8] {
@@ -56,13 +66,13 @@ fn byte_at(text: &[u8], at: usize) -> u8 {
     0
 }
 
-pub fn heading(line: &[u8]) -> bool {
+pub fn heading(rt: &impl Print, line: &[u8]) -> io::Result<bool> {
     if byte_at(line, 0) != b'#' {
-        return false;
+        return Ok(false);
     }
-    io::write_all(1, line);
-    io::write_all(1, b"\n");
-    true
+    rt.write_all(line)?;
+    rt.write_all(b"\n")?;
+    Ok(true)
 }
 
 // What a glyph counts, of ten or of sixteen.
@@ -78,11 +88,9 @@ fn digit(glyph: u8) -> u8
 // A decimal number. One of more than 18 digits loses those in front, so that there is nothing to show.
 fn number(word: &[u8]) -> u64 {
     let mut value: u64 = 0;
-    let mut i = 0;
-    while i < word.len() {
-        let next = digit(word[i]);
+    for glyph in word {
+        let next = digit(*glyph);
         value = value % 100000000000000000 * 10 + (next as u64);
-        i += 1;
     }
     value
 }
@@ -125,14 +133,12 @@ fn spell(piece: &[u8], output: &mut [u8], at: usize) -> usize {
     let run = part(piece, b'*', 0);
     let count = count(piece);
     let mut end = at;
-    let mut i = 0;
-    while i < count {
+    for i in 0..count {
         if output.len() <= end {
             return end;
         }
         output[end] = spelt_byte(run, i);
         end += 1;
-        i += 1;
     }
     end
 }
@@ -140,10 +146,8 @@ fn spell(piece: &[u8], output: &mut [u8], at: usize) -> usize {
 // Puts the bytes that a word spells at the front of the output, and answers how many.
 fn bytes(word: &[u8], output: &mut [u8]) -> usize {
     let mut end = 0;
-    let mut i = 0;
-    while i < word.len() {
+    for i in 0..word.len() {
         end = spell(part(word, b'+', i), output, end);
-        i += 1;
     }
     end
 }
@@ -157,22 +161,21 @@ pub fn field_bytes<'a>(line: &[u8], n: usize, room: &'a mut [u8]) -> &'a [u8] {
     octets::slice(room, 0, length)
 }
 
-fn print_byte(byte: u8) {
-    io::print_hex(1, byte as u64, 2);
-}
-
-pub fn print_bytes(bytes: &[u8]) {
+pub fn print_bytes(rt: &impl Print, bytes: &[u8]) -> io::Result<()> {
     if bytes.len() == 0 {
-        io::write_all(1, b"-");
+        rt.write_all(b"-")?;
     }
-    let mut i = 0;
-    while i < bytes.len() {
-        print_byte(bytes[i]);
-        i += 1;
+    for byte in bytes {
+        print_byte(rt, *byte)?;
     }
+    Ok(())
 }
 
-pub fn print_number(word: &[u8], number: u64) {
-    io::write_all(1, word);
-    io::print_decimal(1, number);
+fn print_byte(rt: &impl Print, byte: u8) -> io::Result<()> {
+    print!(rt; "{byte:02x}")
+}
+
+pub fn print_number(rt: &impl Print, word: &[u8], number: u64) -> io::Result<()> {
+    rt.write_all(word)?;
+    rt.print(number)
 }

@@ -1,3 +1,5 @@
+#![tactic(auto)]
+
 // The calls of both link ends on records as bytes, a row for each. Between rows the program keeps the sender's record,
 // the receiver's and the receiver's buffer. A row's word goes by its first letter; then come bytes, and then numbers:
 // how many bytes of the record, of the buffer and of room for a frame the call is lent.
@@ -15,11 +17,16 @@
 // frame, the length that the call tells, which is 99 before it, and what it wrote.
 ghost use Rattle.std.specs.Prelude.{◌≡◌, length};
 
+use std::io;
+
 // What a length is before a call, to see whether the call tells one.
 const UNTOLD: usize = 99;
 
 // There is room for 1,024 bytes of anything but the sound, and rows lend no more.
 const OVER_ROOM: u64 = 1025;
+
+// More bytes than a row spells.
+const ROOM: usize = 65536;
 
 const MOST_ROWS: usize = 1000;
 
@@ -60,34 +67,32 @@ fn fresh() -> [u8; 1024]
 fn difference(before: &[u8; 1024], after: &[u8; 1024]) -> Place {
     let mut from = 0;
     let mut end = 0;
-    let mut i = 0;
-    while i < 1024 {
+    for i in 0..1024 {
         if before[i] != after[i] {
             if end == 0 {
                 from = i;
             }
             end = i + 1;
         }
-        i += 1;
     }
     Place { from, end }
 }
 
-fn show_bytes(bytes: &[u8; 1024], from: usize, end: usize) {
-    test_kit::print_number(b" from ", from as u64);
-    io::write_all(1, b": ");
-    test_kit::print_bytes(octets::slice(bytes, from, std::num::wrapping_sub_usize(end, from)));
+fn show_bytes(rt: &impl Print, bytes: &[u8; 1024], from: usize, end: usize) -> io::Result<()> {
+    test_kit::print_number(rt, b" from ", from as u64)?;
+    rt.write_all(b": ")?;
+    let n = std::num::wrapping_sub_usize(end, from);
+    test_kit::print_bytes(rt, octets::slice(bytes, from, n))
 }
 
 // What a call answers or tells, and what it changed.
-fn show(number: usize, before: &[u8; 1024], after: &[u8; 1024]) {
+fn show(rt: &impl Print, number: usize, before: &[u8; 1024], after: &[u8; 1024]) -> io::Result<()> {
     let place = difference(before, after);
-    test_kit::print_number(b" | ", number as u64);
+    test_kit::print_number(rt, b" | ", number as u64)?;
     if place.end == 0 {
-        io::write_all(1, b" untouched");
-        return;
+        return rt.write_all(b" untouched");
     }
-    show_bytes(after, place.from, place.end);
+    show_bytes(rt, after, place.from, place.end)
 }
 
 fn keep(bytes: &[u8]) -> Ends {
@@ -118,28 +123,35 @@ fn change(letter: u8, record: &mut [u8], first: &[u8], second: &[u8]) -> u8 {
     receiver_bytes::make(record, first, second)
 }
 
-fn changed(letter: u8, record: [u8; 1024], lent: u64, first: &[u8], second: &[u8]) -> [u8; 1024] {
+fn changed(
+    rt: &impl Print,
+    letter: u8,
+    record: [u8; 1024],
+    lent: u64,
+    first: &[u8],
+    second: &[u8],
+) -> io::Result<[u8; 1024]> {
     let mut next = record;
     let size = (lent % OVER_ROOM) as usize;
     let number = change(letter, &mut next[0..size], first, second);
-    show(number as usize, &record, &next);
-    next
+    show(rt, number as usize, &record, &next)?;
+    Ok(next)
 }
 
-fn make(names: &[u8], lent: Lent) -> Ends {
+fn make(rt: &impl Print, names: &[u8], lent: Lent) -> io::Result<Ends> {
     let key = lent.first as usize;
     let pair = lent.second as usize;
     let record = lent.record;
     let own_key = octets::slice(names, 0, key);
     let own_pair = octets::slice(names, key, pair);
     let buffer = fresh();
-    let sender = changed(b'm', buffer, record, own_key, own_pair);
-    let receiver = changed(b'n', buffer, record, own_key, own_pair);
+    let sender = changed(rt, b'm', buffer, record, own_key, own_pair)?;
+    let receiver = changed(rt, b'n', buffer, record, own_key, own_pair)?;
     let kept = Kept { receiver, buffer };
-    Ends { sender, kept }
+    Ok(Ends { sender, kept })
 }
 
-fn send(sender: &[u8; 1024], sound: &[u8], lent: Lent) {
+fn send(rt: &impl Print, sender: &[u8; 1024], sound: &[u8], lent: Lent) -> io::Result<()> {
     let before = fresh();
     let mut frame = before;
     let mut length = UNTOLD;
@@ -151,11 +163,17 @@ fn send(sender: &[u8; 1024], sound: &[u8], lent: Lent) {
         &mut frame[0..space],
         &mut length,
     );
-    show(number as usize, sender, sender);
-    show(length, &before, &frame);
+    show(rt, number as usize, sender, sender)?;
+    show(rt, length, &before, &frame)
 }
 
-fn receive(receiver: [u8; 1024], buffer: [u8; 1024], frame: &[u8], lent: Lent) -> Kept {
+fn receive(
+    rt: &impl Print,
+    receiver: [u8; 1024],
+    buffer: [u8; 1024],
+    frame: &[u8],
+    lent: Lent,
+) -> io::Result<Kept> {
     let before = fresh();
     let mut answer = before;
     let mut next = receiver;
@@ -171,39 +189,39 @@ fn receive(receiver: [u8; 1024], buffer: [u8; 1024], frame: &[u8], lent: Lent) -
         &mut answer[0..space],
         &mut length,
     );
-    show(number as usize, &receiver, &next);
-    show(most, &buffer, &sound);
-    show(length, &before, &answer);
-    Kept {
+    show(rt, number as usize, &receiver, &next)?;
+    show(rt, most, &buffer, &sound)?;
+    show(rt, length, &before, &answer)?;
+    Ok(Kept {
         receiver: next,
         buffer: sound,
-    }
+    })
 }
 
-fn call(letter: u8, ends: Ends, given: &[u8], lent: Lent) -> Ends {
+fn call(rt: &impl Print, letter: u8, ends: Ends, given: &[u8], lent: Lent) -> io::Result<Ends> {
     if letter == b'k' {
-        return keep(given);
+        return Ok(keep(given));
     }
     if letter == b'm' {
-        return make(given, lent);
+        return make(rt, given, lent);
     }
     let sender = ends.sender;
     let kept = ends.kept;
     if letter == b'r' {
         let receiver = kept.receiver;
         let buffer = kept.buffer;
-        let heard = receive(receiver, buffer, given, lent);
-        return Ends {
+        let heard = receive(rt, receiver, buffer, given, lent)?;
+        return Ok(Ends {
             sender,
             kept: heard,
-        };
+        });
     }
     if letter == b's' {
-        send(&sender, given, lent);
-        return ends;
+        send(rt, &sender, given, lent)?;
+        return Ok(ends);
     }
-    let next = changed(letter, sender, lent.record, given, given);
-    Ends { sender: next, kept }
+    let next = changed(rt, letter, sender, lent.record, given, given)?;
+    Ok(Ends { sender: next, kept })
 }
 
 fn numbers(row: &[u8]) -> Lent {
@@ -214,30 +232,28 @@ fn numbers(row: &[u8]) -> Lent {
     }
 }
 
-fn run(row: &[u8], ends: Ends) -> Ends {
-    if row.len() == 0 || test_kit::heading(row) {
-        return ends;
+fn run(rt: &impl Print, row: &[u8], ends: Ends) -> io::Result<Ends> {
+    if row.len() == 0 || test_kit::heading(rt, row)? {
+        return Ok(ends);
     }
-    io::write_all(1, row);
-    let mut bytes = io::large_buffer();
+    rt.write_all(row)?;
+    let mut bytes = [0; ROOM];
     let given = test_kit::field_bytes(row, 1, &mut bytes);
-    let next = call(row[0], ends, given, numbers(row));
-    io::write_all(1, b"\n");
-    next
+    let next = call(rt, row[0], ends, given, numbers(row))?;
+    rt.write_all(b"\n")?;
+    Ok(next)
 }
 
 // The first row has to keep or to make something.
-fn run_all(rows: &[u8]) {
+fn run_all(rt: &impl Print, rows: &[u8]) -> io::Result<()> {
     let mut ends = keep(rows);
-    let mut n = 0;
-    while n < MOST_ROWS {
-        ends = run(test_kit::line(rows, n), ends);
-        n += 1;
+    for n in 0..MOST_ROWS {
+        ends = run(rt, test_kit::line(rows, n), ends)?;
     }
+    Ok(())
 }
 
-fn main() {
-    let mut rows = io::large_buffer();
-    let got = io::read_full(0, &mut rows);
-    run_all(&rows[0..got]);
+fn main(rt: HostRuntime) -> io::Result<()> {
+    let rows = test_kit::read_rows(&rt)?;
+    run_all(&rt, &rows)
 }

@@ -5,6 +5,7 @@ ghost use Rattle.std.specs.Prelude.{◌≡◌, length};
 
 use crate::parts;
 use pack::Kind;
+use std::io;
 
 const FILE_ROOM: usize = 58;
 
@@ -22,17 +23,17 @@ pub fn sound_room() -> [i16; 4]
     [samples::word(test_kit::UNTOUCHED, test_kit::UNTOUCHED); SOUND_ROOM]
 }
 
-fn print_output(output: &[u8]) {
-    io::write_all(1, b", ");
-    parts::print_output(output);
-    io::write_all(1, b"\n");
+fn print_output(rt: &impl Print, output: &[u8]) -> io::Result<()> {
+    rt.write_all(b", ")?;
+    parts::print_output(rt, output)?;
+    rt.write_all(b"\n")
 }
 
 // An array's length is known where it is lent as an array, also after a part of it was lent.
-pub fn print_sound(output: &[i16; 4]) {
+pub fn print_sound(rt: &impl Print, output: &[i16; 4]) -> io::Result<()> {
     let mut bytes = file_room();
     sample_runs::write_words(output, &mut bytes);
-    print_output(octets::slice(&bytes, 0, 2 * SOUND_ROOM));
+    print_output(rt, octets::slice(&bytes, 0, 2 * SOUND_ROOM))
 }
 
 // How many bytes of a small file are printed: of one with a tag more than of others.
@@ -43,9 +44,9 @@ fn shown(kind: Kind) -> usize {
     FILE_ROOM
 }
 
-pub fn open(row: &[u8]) {
+pub fn open(rt: &impl Print, row: &[u8]) -> io::Result<()> {
     let lent = parts::least(test_kit::field_number(row, 3) as usize, SOUND_ROOM);
-    let mut file = io::buffer();
+    let mut file = [0; parts::SMALL_ROOM];
     let mut output = sound_room();
     let mut keys = parts::own_keys();
     test_kit::field_bytes(row, 4, &mut keys);
@@ -56,12 +57,12 @@ pub fn open(row: &[u8]) {
         rings::triad_ring(&keys),
         &mut output[0..lent],
     );
-    parts::print_opened(b"", opened);
-    print_sound(&output);
+    parts::print_opened(rt, b"", opened)?;
+    print_sound(rt, &output)
 }
 
-pub fn seal(row: &[u8]) {
-    let mut body = io::large_buffer();
+pub fn seal(rt: &impl Print, row: &[u8]) -> io::Result<()> {
+    let mut body = [0; parts::LARGE_ROOM];
     let mut file = file_room();
     let kind = parts::kind_at(row, 8);
     let sealed = parts::seal_row(
@@ -70,7 +71,7 @@ pub fn seal(row: &[u8]) {
         test_kit::field_bytes(row, 2, &mut body),
         &mut file,
     );
-    test_kit::print_number(b" ", sealed.refusal as u64);
-    test_kit::print_number(b" ", sealed.length as u64);
-    print_output(octets::slice(&file, 0, shown(kind)));
+    test_kit::print_number(rt, b" ", sealed.refusal as u64)?;
+    test_kit::print_number(rt, b" ", sealed.length as u64)?;
+    print_output(rt, octets::slice(&file, 0, shown(kind)))
 }

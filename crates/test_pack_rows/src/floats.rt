@@ -4,6 +4,7 @@
 ghost use Rattle.std.specs.Prelude.{◌≡◌, length};
 
 use crate::parts;
+use std::io;
 
 // What each float is before a call: over 1, as no sample is.
 const UNTOUCHED: f32 = 2.5;
@@ -22,18 +23,17 @@ fn pattern(x: f32) -> u32 {
     if x == x { f32::to_bits(x) } else { 0xffffffff }
 }
 
-fn print_floats(output: &[f32; 4]) {
-    let mut i = 0;
-    while i < ROOM {
-        io::write_all(1, b" ");
-        io::print_hex(1, pattern(output[i]) as u64, 8);
-        i += 1;
+fn print_floats(rt: &impl Print, output: &[f32; 4]) -> io::Result<()> {
+    for x in output {
+        let bits = pattern(*x);
+        print!(rt; " {bits:08x}")?;
     }
+    Ok(())
 }
 
-pub fn frames(row: &[u8]) {
+pub fn frames(rt: &impl Print, row: &[u8]) -> io::Result<()> {
     let lent = parts::least(test_kit::field_number(row, 3) as usize, ROOM);
-    let mut file = io::buffer();
+    let mut file = [0; parts::SMALL_ROOM];
     let mut output = room();
     let mut keys = parts::own_keys();
     test_kit::field_bytes(row, 4, &mut keys);
@@ -44,8 +44,8 @@ pub fn frames(row: &[u8]) {
         rings::triad_ring(&keys),
         &mut output[0..lent],
     );
-    parts::print_opened(b"", opened);
-    io::write_all(1, b",");
-    print_floats(&output);
-    io::write_all(1, b"\n");
+    parts::print_opened(rt, b"", opened)?;
+    rt.write_all(b",")?;
+    print_floats(rt, &output)?;
+    rt.write_all(b"\n")
 }

@@ -18,46 +18,36 @@ mod floats;
 mod parts;
 mod trips;
 
-fn run_labelled(row: &[u8], word: &[u8]) {
-    io::write_all(1, test_kit::field(row, 1));
-    if check::same(word, b"open") {
-        calls::open(row);
-        return;
+use std::io;
+
+fn run_labelled(rt: &impl Print, row: &[u8], word: &[u8]) -> io::Result<()> {
+    rt.write_all(test_kit::field(row, 1))?;
+    match word {
+        b"open" => calls::open(rt, row),
+        b"frames" => floats::frames(rt, row),
+        b"flip" => flips::flip(rt, row),
+        _ => calls::seal(rt, row),
     }
-    if check::same(word, b"frames") {
-        floats::frames(row);
-        return;
-    }
-    if check::same(word, b"flip") {
-        flips::flip(row);
-        return;
-    }
-    calls::seal(row);
 }
 
-fn run(row: &[u8]) {
+fn run(rt: &impl Print, row: &[u8]) -> io::Result<()> {
     let word = test_kit::field(row, 0);
-    if check::same(word, b"trip") {
-        trips::trip(row);
-        return;
+    match word {
+        b"trip" => trips::trip(rt, row),
+        b"lowest" => trips::lowest(rt, row),
+        _ => run_labelled(rt, row, word),
     }
-    if check::same(word, b"lowest") {
-        trips::lowest(row);
-        return;
-    }
-    run_labelled(row, word);
 }
 
-pub fn run_all(rows: &[u8]) {
-    let mut i = 0;
-    while i < rows.len() {
+pub fn run_all(rt: &impl Print, rows: &[u8]) -> io::Result<()> {
+    for i in 0..rows.len() {
         let row = test_kit::line(rows, i);
         if row.len() == 0 {
-            return;
+            break;
         }
-        if !test_kit::heading(row) {
-            run(row);
+        if !test_kit::heading(rt, row)? {
+            run(rt, row)?;
         }
-        i += 1;
     }
+    Ok(())
 }

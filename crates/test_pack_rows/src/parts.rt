@@ -2,6 +2,12 @@
 ghost use Rattle.std.specs.Prelude.{◌≡◌, min, length};
 
 use pack::{Kind, Opened, Sealed};
+use std::io;
+
+// More bytes than a small file has, or a word of a row spells; and more than the samples of the longest pack have.
+pub const SMALL_ROOM: usize = 4096;
+
+pub const LARGE_ROOM: usize = 65536;
 
 // The keys of all rings as bytes: Trivium's four of ten bytes, behind them Enocoro's four of 16, and TRIAD's.
 pub fn own_keys() -> [u8; 168]
@@ -13,13 +19,11 @@ pub fn own_keys() -> [u8; 168]
 
 // The cipher that a word of a row names. If there is no such word it is Trivium.
 pub fn kind_at(row: &[u8], n: usize) -> Kind {
-    if check::same(test_kit::field(row, n), b"enocoro") {
-        return Kind::Enocoro;
+    match test_kit::field(row, n) {
+        b"enocoro" => Kind::Enocoro,
+        b"triad" => Kind::Triad,
+        _ => Kind::Trivium,
     }
-    if check::same(test_kit::field(row, n), b"triad") {
-        return Kind::Triad;
-    }
-    Kind::Trivium
 }
 
 // Where the samples of a file begin, if the initial value is at its place.
@@ -44,46 +48,42 @@ pub fn turn_over(file: &[u8], at: usize, bits: u8, other: &mut [u8]) {
 
 // Whether each byte is as an output is before a call.
 fn untouched(output: &[u8]) -> bool {
-    let mut i = 0;
-    while i < output.len() {
-        if output[i] != test_kit::UNTOUCHED {
+    for byte in output {
+        if *byte != test_kit::UNTOUCHED {
             return false;
         }
-        i += 1;
     }
     true
 }
 
 // Bytes, or that each is as it was before the call.
-pub fn print_output(output: &[u8]) {
+pub fn print_output(rt: &impl Print, output: &[u8]) -> io::Result<()> {
     if untouched(output) {
-        io::write_all(1, b"untouched");
-        return;
+        return rt.write_all(b"untouched");
     }
-    test_kit::print_bytes(output);
+    test_kit::print_bytes(rt, output)
 }
 
 // Prints whether two runs are the same, and what they are.
-pub fn compare(what: &[u8], a: &[u8], b: &[u8]) {
-    if check::same(a, b) {
-        io::write_all(1, b", same ");
+pub fn compare(rt: &impl Print, what: &[u8], a: &[u8], b: &[u8]) -> io::Result<()> {
+    if a == b {
+        rt.write_all(b", same ")?;
     } else {
-        io::write_all(1, b", other ");
+        rt.write_all(b", other ")?;
     }
-    io::write_all(1, what);
+    rt.write_all(what)
 }
 
 // Decimal numbers, a space before each.
-fn print_numbers(numbers: &[u64]) {
-    let mut i = 0;
-    while i < numbers.len() {
-        test_kit::print_number(b" ", numbers[i]);
-        i += 1;
+fn print_numbers(rt: &impl Print, numbers: &[u64]) -> io::Result<()> {
+    for number in numbers {
+        test_kit::print_number(rt, b" ", *number)?;
     }
+    Ok(())
 }
 
 // Prints the answer's fields in their order.
-pub fn print_opened(lead: &[u8], opened: Opened) {
+pub fn print_opened(rt: &impl Print, lead: &[u8], opened: Opened) -> io::Result<()> {
     let answer = [
         opened.refusal as u64,
         opened.lacks as u64,
@@ -95,8 +95,8 @@ pub fn print_opened(lead: &[u8], opened: Opened) {
         opened.value_at as u64,
         opened.loops_at as u64,
     ];
-    io::write_all(1, lead);
-    print_numbers(&answer);
+    rt.write_all(lead)?;
+    print_numbers(rt, &answer)
 }
 
 // More zeros than a pack can have samples, and numbers of loops.
@@ -115,23 +115,19 @@ fn large_run() -> [u32; 18]
 // Fills the output with the signed numbers of two bytes each, -32768 too, which no opening gives. Behind the last they
 // are 0.
 fn twos(bytes: &[u8], output: &mut [i16]) {
-    let mut i = 0;
     let mut at = 0;
-    while i < output.len() {
-        output[i] = samples::signed(octets::two_at(bytes, at));
+    for sample in output.iter_mut() {
+        *sample = samples::signed(octets::two_at(bytes, at));
         at = std::num::wrapping_add_usize(at, 2);
-        i += 1;
     }
 }
 
 // Fills the output with numbers of four bytes. Behind the last they are 0.
 fn fours(bytes: &[u8], output: &mut [u32]) {
-    let mut i = 0;
     let mut at = 0;
-    while i < output.len() {
-        output[i] = octets::four_at(bytes, at);
+    for number in output.iter_mut() {
+        *number = octets::four_at(bytes, at);
         at = std::num::wrapping_add_usize(at, 4);
-        i += 1;
     }
 }
 
@@ -193,9 +189,9 @@ pub fn seal(
 
 // The same with NAME KEY VALUE LOOPS ROOM from the row's last words, which begin at the fourth.
 pub fn seal_row(row: &[u8], kind: Kind, body: &[u8], file: &mut [u8]) -> Sealed {
-    let mut name = io::buffer();
-    let mut value = io::buffer();
-    let mut loops = io::buffer();
+    let mut name = [0; SMALL_ROOM];
+    let mut value = [0; SMALL_ROOM];
+    let mut loops = [0; SMALL_ROOM];
     seal(
         kind,
         test_kit::field_bytes(row, 3, &mut name),

@@ -6,6 +6,7 @@ ghost use Rattle.std.specs.Prelude.{◌≡◌, length};
 
 use crate::parts;
 use pack::{Kind, Opened};
+use std::io;
 
 // What a sound begins with: both ends of the range and both sides of 0.
 const EDGES: [u8; 8] = [0x80, 1, 0xff, 0xff, 0, 0, 0x7f, 0xff];
@@ -32,11 +33,9 @@ fn sound_room() -> [i16; 16400]
 // Bytes that look random, behind the edges.
 fn fill(seed: u64, bytes: &mut [u8]) {
     let mut word = seed;
-    let mut i = 0;
-    while i < bytes.len() {
+    for byte in bytes.iter_mut() {
         word = test_shuffle::shuffled(word);
-        bytes[i] = (word % 256) as u8;
-        i += 1;
+        *byte = (word % 256) as u8;
     }
     let edges = EDGES;
     octet_writer::copy(bytes, 0, &edges);
@@ -51,21 +50,28 @@ fn other_keys() -> [u8; 168]
 }
 
 // The bytes of an output behind its n-th.
-fn print_rest(output: &[u8], n: usize) {
-    io::write_all(1, b", rest ");
-    parts::print_output(octets::slice(output, n, FILE_ROOM));
+fn print_rest(rt: &impl Print, output: &[u8], n: usize) -> io::Result<()> {
+    rt.write_all(b", rest ")?;
+    parts::print_output(rt, octets::slice(output, n, FILE_ROOM))
 }
 
 // The samples that should be there, as bytes, and what is behind them. An array's length is known where it is lent as
 // an array, also after a part of it was lent.
-fn print_sound(output: &[i16; 16400], body: &[u8]) {
+fn print_sound(rt: &impl Print, output: &[i16; 16400], body: &[u8]) -> io::Result<()> {
     let mut bytes = file_room();
     sample_runs::write_words(output, &mut bytes);
-    parts::compare(b"samples", octets::slice(&bytes, 0, body.len()), body);
-    print_rest(&bytes, body.len());
+    parts::compare(rt, b"samples", octets::slice(&bytes, 0, body.len()), body)?;
+    print_rest(rt, &bytes, body.len())
 }
 
-fn open(lead: &[u8], keys: &[u8; 168], file: &[u8], room: usize, body: &[u8]) -> Opened {
+fn open(
+    rt: &impl Print,
+    lead: &[u8],
+    keys: &[u8; 168],
+    file: &[u8],
+    room: usize,
+    body: &[u8],
+) -> io::Result<Opened> {
     let mut output = sound_room();
     let lent = parts::least(room, SOUND_ROOM);
     let opened = opener::open(
@@ -76,32 +82,56 @@ fn open(lead: &[u8], keys: &[u8; 168], file: &[u8], room: usize, body: &[u8]) ->
         &mut output[0..lent],
     );
     let samples = opened.samples;
-    parts::print_opened(lead, opened);
-    print_sound(&output, octets::slice(body, 0, 2 * (samples % 16385)));
-    opened
+    parts::print_opened(rt, lead, opened)?;
+    print_sound(rt, &output, octets::slice(body, 0, 2 * (samples % 16385)))?;
+    Ok(opened)
 }
 
 // Bytes of a file beside a word of the row.
-fn compare_field(what: &[u8], file: &[u8], at: usize, n: usize, row: &[u8], field: usize) {
-    let mut room = io::buffer();
+fn compare_field(
+    rt: &impl Print,
+    what: &[u8],
+    file: &[u8],
+    at: usize,
+    n: usize,
+    row: &[u8],
+    field: usize,
+) -> io::Result<()> {
+    let mut room = [0; parts::SMALL_ROOM];
     parts::compare(
+        rt,
         what,
         octets::slice(file, at, n),
         test_kit::field_bytes(row, field, &mut room),
-    );
+    )
 }
 
 // The parts of a file that are not enciphered, at the places that the answer says.
-fn print_parts(row: &[u8], kind: Kind, file: &[u8], opened: Opened) {
+fn print_parts(
+    rt: &impl Print,
+    row: &[u8],
+    kind: Kind,
+    file: &[u8],
+    opened: Opened,
+) -> io::Result<()> {
     let loops = opened.loops;
     let value_bytes = pack::value_bytes(kind);
-    compare_field(b"name", file, opened.name_at, opened.name_length, row, 3);
-    compare_field(b"value", file, opened.value_at, value_bytes, row, 5);
-    compare_field(b"loops", file, opened.loops_at, 8 * (loops % 9), row, 6);
+    compare_field(
+        rt,
+        b"name",
+        file,
+        opened.name_at,
+        opened.name_length,
+        row,
+        3,
+    )?;
+    compare_field(rt, b"value", file, opened.value_at, value_bytes, row, 5)?;
+    compare_field(rt, b"loops", file, opened.loops_at, 8 * (loops % 9), row, 6)
 }
 
 // A file sealed again with its own parts, under any key number, beside n bytes of it from a place.
 fn seal_again(
+    rt: &impl Print,
     what: &[u8],
     kind: Kind,
     file: &[u8],
@@ -110,7 +140,7 @@ fn seal_again(
     body: &[u8],
     from: usize,
     n: usize,
-) {
+) -> io::Result<()> {
     let name_at = opened.name_at;
     let name_length = opened.name_length;
     let value_at = opened.value_at;
@@ -127,78 +157,107 @@ fn seal_again(
         FILE_ROOM,
         &mut again,
     );
-    test_kit::print_number(b"; sealed ", sealed.refusal as u64);
+    test_kit::print_number(rt, b"; sealed ", sealed.refusal as u64)?;
     parts::compare(
+        rt,
         what,
         octets::slice(file, from, n),
         octets::slice(&again, from, n),
-    );
+    )
 }
 
 // The same file once more: with everything as it was, under another ring, and under the next key number.
-fn once_more(kind: Kind, file: &[u8], bytes: usize, opened: Opened, body: &[u8]) {
+fn once_more(
+    rt: &impl Print,
+    kind: Kind,
+    file: &[u8],
+    bytes: usize,
+    opened: Opened,
+    body: &[u8],
+) -> io::Result<()> {
     let key = opened.key;
     let keys = other_keys();
     let body_at = parts::body_at(kind, opened.value_at);
     let next = (key % 4 + 1) % 4;
-    seal_again(b"file", kind, file, opened, key, body, 0, FILE_ROOM);
+    seal_again(rt, b"file", kind, file, opened, key, body, 0, FILE_ROOM)?;
     open(
+        rt,
         b"; other ring",
         &keys,
         octets::slice(file, 0, bytes),
         SOUND_ROOM,
         body,
-    );
-    seal_again(b"body", kind, file, opened, next, body, body_at, body.len());
+    )?;
+    seal_again(
+        rt,
+        b"body",
+        kind,
+        file,
+        opened,
+        next,
+        body,
+        body_at,
+        body.len(),
+    )
 }
 
-fn back(row: &[u8], kind: Kind, file: &[u8], bytes: usize, body: &[u8]) {
+fn back(
+    rt: &impl Print,
+    row: &[u8],
+    kind: Kind,
+    file: &[u8],
+    bytes: usize,
+    body: &[u8],
+) -> io::Result<()> {
     let room = test_kit::field_number(row, 8) as usize;
     let keys = parts::own_keys();
     let opened = open(
+        rt,
         b"; opened",
         &keys,
         octets::slice(file, 0, bytes),
         room,
         body,
-    );
+    )?;
     if opened.refusal != refusals::ACCEPTED {
-        return;
+        return Ok(());
     }
-    print_parts(row, kind, file, opened);
-    once_more(kind, file, bytes, opened, body);
+    print_parts(rt, row, kind, file, opened)?;
+    once_more(rt, kind, file, bytes, opened, body)
 }
 
 // The tag, the last eight bytes of a file that has one.
-fn print_tag(kind: Kind, file: &[u8], bytes: usize) {
+fn print_tag(rt: &impl Print, kind: Kind, file: &[u8], bytes: usize) -> io::Result<()> {
     if pack::tag_length(kind) == 0 {
-        return;
+        return Ok(());
     }
-    io::write_all(1, b", tag ");
-    test_kit::print_bytes(octets::slice(file, std::num::wrapping_sub_usize(bytes, 8), 8));
+    rt.write_all(b", tag ")?;
+    let at = std::num::wrapping_sub_usize(bytes, 8);
+    test_kit::print_bytes(rt, octets::slice(file, at, 8))
 }
 
-fn there(row: &[u8], body: &[u8]) {
+fn there(rt: &impl Print, row: &[u8], body: &[u8]) -> io::Result<()> {
     let mut file = file_room();
     let kind = parts::kind_at(row, 9);
     let sealed = parts::seal_row(row, kind, body, &mut file);
     let bytes = sealed.length;
-    test_kit::print_number(b"sealed ", sealed.refusal as u64);
-    test_kit::print_number(b" ", bytes as u64);
-    print_rest(&file, bytes);
-    print_tag(kind, &file, bytes);
-    back(row, kind, &file, bytes, body);
+    test_kit::print_number(rt, b"sealed ", sealed.refusal as u64)?;
+    test_kit::print_number(rt, b" ", bytes as u64)?;
+    print_rest(rt, &file, bytes)?;
+    print_tag(rt, kind, &file, bytes)?;
+    back(rt, row, kind, &file, bytes, body)
 }
 
-pub fn trip(row: &[u8]) {
-    let mut bytes = io::large_buffer();
+pub fn trip(rt: &impl Print, row: &[u8]) -> io::Result<()> {
+    let mut bytes = [0; parts::LARGE_ROOM];
     let count = test_kit::field_number(row, 2) as usize;
     fill(test_kit::field_number(row, 1), &mut bytes);
     there(
+        rt,
         row,
         octets::slice(&bytes, 0, std::num::wrapping_add_usize(count, count)),
-    );
-    io::write_all(1, b"\n");
+    )?;
+    rt.write_all(b"\n")
 }
 
 // Where the sample at a place has its last byte, or the end of all room if there is no such sample.
@@ -211,17 +270,28 @@ fn last_byte(body_at: usize, count: usize, place: usize) -> usize {
 
 // A file, and another that differs from it in the last bit of a sample, or in nothing. The other one opens to the same
 // sound; sealed again it is the first one, and itself only if they don't differ.
-fn lowest_back(kind: Kind, file: &[u8], other: &[u8], bytes: usize, body: &[u8]) {
+fn lowest_back(
+    rt: &impl Print,
+    kind: Kind,
+    file: &[u8],
+    other: &[u8],
+    bytes: usize,
+    body: &[u8],
+) -> io::Result<()> {
     let keys = parts::own_keys();
     let opened = open(
+        rt,
         b"opened",
         &keys,
         octets::slice(other, 0, bytes),
         SOUND_ROOM,
         body,
-    );
-    seal_again(b"file", kind, other, opened, opened.key, body, 0, FILE_ROOM);
+    )?;
     seal_again(
+        rt, b"file", kind, other, opened, opened.key, body, 0, FILE_ROOM,
+    )?;
+    seal_again(
+        rt,
         b"first file",
         kind,
         file,
@@ -230,10 +300,10 @@ fn lowest_back(kind: Kind, file: &[u8], other: &[u8], bytes: usize, body: &[u8])
         body,
         0,
         FILE_ROOM,
-    );
+    )
 }
 
-fn lowest_there(row: &[u8], body: &[u8], place: usize) {
+fn lowest_there(rt: &impl Print, row: &[u8], body: &[u8], place: usize) -> io::Result<()> {
     let mut file = file_room();
     let mut other = file_room();
     let kind = parts::kind_at(row, 9);
@@ -242,18 +312,18 @@ fn lowest_there(row: &[u8], body: &[u8], place: usize) {
     let body_at = parts::body_at(kind, first.value_at);
     let at = last_byte(body_at, body.len() / 2, place);
     parts::turn_over(&file, at, 1, &mut other);
-    lowest_back(kind, &file, &other, sealed.length, body);
+    lowest_back(rt, kind, &file, &other, sealed.length, body)
 }
 
 // With the lowest sample at PLACE, of which the file has 80 00 then: the last bit of its enciphered byte is turned
 // over, and so that of the plain byte.
-pub fn lowest(row: &[u8]) {
-    let mut bytes = io::large_buffer();
+pub fn lowest(rt: &impl Print, row: &[u8]) -> io::Result<()> {
+    let mut bytes = [0; parts::LARGE_ROOM];
     let count = test_kit::field_number(row, 2) as usize % 16385;
     let place = test_kit::field_number(row, 8) as usize % 16385;
     let sample = LOWEST;
     fill(test_kit::field_number(row, 1), &mut bytes);
     octet_writer::copy(&mut bytes, 2 * place, &sample);
-    lowest_there(row, octets::slice(&bytes, 0, 2 * count), place);
-    io::write_all(1, b"\n");
+    lowest_there(rt, row, octets::slice(&bytes, 0, 2 * count), place)?;
+    rt.write_all(b"\n")
 }

@@ -1,6 +1,9 @@
+#![tactic(auto)]
+
 // Packs with a tag, by the rows of `test_pack_rows`.
-fn main() {
-    let mut input = io::large_buffer();
-    let got = io::read_full(0, &mut input);
-    test_pack_rows::run_all(&input[..got]);
+use std::io;
+
+fn main(rt: HostRuntime) -> io::Result<()> {
+    let rows = test_kit::read_rows(&rt)?;
+    test_pack_rows::run_all(&rt, &rows)
 }

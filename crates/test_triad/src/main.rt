@@ -1,3 +1,5 @@
+#![tactic(auto)]
+
 // TRIAD by rows: the paper's test vectors, the engines against each other, and how calls fit together. The program
 // keeps registers. A row sets them, or is a case that sets out from them; its first letter tells which:
 //
@@ -23,7 +25,11 @@
 // enciphered message, which is cut too.
 ghost use Rattle.std.specs.Prelude.{◌≡◌, length};
 
+use std::io;
 use triad::{Made, Registers, Strode};
+
+// More bytes than a row spells.
+const ROOM: usize = 4096;
 
 fn untouched() -> [u8; 48]
     ensures { 48 ≡ length result }
@@ -42,28 +48,27 @@ fn registers(words: &[u8]) -> Registers {
     }
 }
 
-fn show_word(word: u64) {
-    io::write_all(1, b" ");
-    io::print_hex(1, word, 16);
+fn show_word(rt: &impl Print, word: u64) -> io::Result<()> {
+    print!(rt; " {word:016x}")
 }
 
-fn show(x: Registers) {
-    show_word(x.a1);
-    show_word(x.a0);
-    show_word(x.b1);
-    show_word(x.b0);
-    show_word(x.c1);
-    show_word(x.c0);
+fn show(rt: &impl Print, x: Registers) -> io::Result<()> {
+    show_word(rt, x.a1)?;
+    show_word(rt, x.a0)?;
+    show_word(rt, x.b1)?;
+    show_word(rt, x.b0)?;
+    show_word(rt, x.c1)?;
+    show_word(rt, x.c0)
 }
 
-fn show_strode(x: Strode) {
-    show_word(x.word);
-    show(x.next);
+fn show_strode(rt: &impl Print, x: Strode) -> io::Result<()> {
+    show_word(rt, x.word)?;
+    show(rt, x.next)
 }
 
-fn show_made(made: Made) -> Registers {
-    test_kit::print_number(b" ", made.refusal as u64);
-    made.registers
+fn show_made(rt: &impl Print, made: Made) -> io::Result<Registers> {
+    test_kit::print_number(rt, b" ", made.refusal as u64)?;
+    Ok(made.registers)
 }
 
 fn same(x: Registers, y: Registers) -> bool {
@@ -76,13 +81,11 @@ fn walk(from: Registers, message: u64, steps: usize) -> Strode {
     let mut next = from;
     let mut bits = message;
     let mut word: u64 = 0;
-    let mut left = steps;
-    while 0 < left {
+    for _ in 0..steps {
         let stepped = next.step(bits);
         word = (word >> 1) ^ ((stepped.bit as u64) << 63);
         next = stepped.next;
         bits = bits >> 1;
-        left -= 1;
     }
     Strode { word, next }
 }
@@ -98,12 +101,17 @@ fn strides_agree(from: Registers, message: u64, steps: usize) -> bool {
 }
 
 // Contents of which each but the first has a new word, and the words of the one before it a place further.
-fn differ(from: Registers, message: u64, steps: usize, count: usize) {
+fn differ(
+    rt: &impl Print,
+    from: Registers,
+    message: u64,
+    steps: usize,
+    count: usize,
+) -> io::Result<()> {
     let mut contents = from;
     let mut word = message;
     let mut differ: u64 = 0;
-    let mut left = count;
-    while 0 < left {
+    for _ in 0..count {
         if !strides_agree(contents, word, steps) {
             differ = std::num::wrapping_add_u64(differ, 1);
         }
@@ -117,24 +125,28 @@ fn differ(from: Registers, message: u64, steps: usize, count: usize) {
             c0: last.c1,
         };
         word = test_shuffle::shuffled(word);
-        left -= 1;
     }
-    test_kit::print_number(b" differ ", differ);
+    test_kit::print_number(rt, b" differ ", differ)
 }
 
 // An array's length is known where it is lent as an array, also after a part of it was lent.
-fn show_output(output: &[u8; 48], room: usize) {
-    io::write_all(1, b" ");
-    test_kit::print_bytes(octets::slice(output, 0, room));
+fn show_output(rt: &impl Print, output: &[u8; 48], room: usize) -> io::Result<()> {
+    rt.write_all(b" ")?;
+    test_kit::print_bytes(rt, octets::slice(output, 0, room))
 }
 
-fn encipher(from: Registers, input: &[u8], output_bytes: usize) -> Registers {
+fn encipher(
+    rt: &impl Print,
+    from: Registers,
+    input: &[u8],
+    output_bytes: usize,
+) -> io::Result<Registers> {
     let mut output = untouched();
     let room = output_bytes % 49;
     let enciphered = triad_runs::encipher(from, input, &mut output[0..room]);
-    test_kit::print_number(b" ", enciphered.refusal as u64);
-    show_output(&output, room);
-    enciphered.next
+    test_kit::print_number(rt, b" ", enciphered.refusal as u64)?;
+    show_output(rt, &output, room)?;
+    Ok(enciphered.next)
 }
 
 // The front of a run, which always has as many bytes here.
@@ -145,12 +157,12 @@ fn cover_front(from: Registers, run: &mut [u8], n: usize) -> Registers {
     triad_runs::cover(from, &mut run[0..n])
 }
 
-fn here(from: Registers, input: &[u8]) -> Registers {
+fn here(rt: &impl Print, from: Registers, input: &[u8]) -> io::Result<Registers> {
     let mut output = untouched();
     octet_writer::copy(&mut output, 0, input);
     let next = cover_front(from, &mut output, input.len());
-    show_output(&output, 48);
-    next
+    show_output(rt, &output, 48)?;
+    Ok(next)
 }
 
 fn absorb_in_two(from: Registers, bytes: &[u8], n: usize) -> Registers {
@@ -160,7 +172,7 @@ fn absorb_in_two(from: Registers, bytes: &[u8], n: usize) -> Registers {
 
 // The second call's cipher stands behind the first one's bytes.
 fn absorb_under_in_two(from: Registers, cipher: Registers, bytes: &[u8], n: usize) -> Registers {
-    let mut room = io::buffer();
+    let mut room = [0; ROOM];
     let first = octets::slice(bytes, 0, n);
     let half = triad_runs::absorb_under(from, cipher, first);
     let moved = triad_runs::encipher(cipher, first, &mut room);
@@ -182,122 +194,140 @@ fn absorb_count(from: Registers, count: usize) -> Registers {
 }
 
 fn show_tags(
+    rt: &impl Print,
     cipher: Registers,
     begun: Registers,
     data: &[u8],
     message: &[u8],
     covered: &[u8],
     n: usize,
-) {
+) -> io::Result<()> {
     let one = absorb_count(triad_runs::absorb(begun, data), data.len());
     let two = absorb_count(absorb_in_two(begun, data, n), data.len());
-    show_word(triad_runs::absorb(one, message).tag());
-    show_word(absorb_in_two(two, message, n).tag());
-    show_word(absorb_under_in_two(one, cipher, covered, n).tag());
+    show_word(rt, triad_runs::absorb(one, message).tag())?;
+    show_word(rt, absorb_in_two(two, message, n).tag())?;
+    show_word(rt, absorb_under_in_two(one, cipher, covered, n).tag())
 }
 
-fn vector(key: &[u8], nonce: &[u8], data: &[u8], message: &[u8], n: usize) {
-    let mut room = io::buffer();
+fn vector(
+    rt: &impl Print,
+    key: &[u8],
+    nonce: &[u8],
+    data: &[u8],
+    message: &[u8],
+    n: usize,
+) -> io::Result<()> {
+    let mut room = [0; ROOM];
     let made = Registers::new(key, nonce);
     let begun = Registers::new_tag(key, nonce);
     let cipher = made.registers;
     triad_runs::encipher(cipher, message, &mut room);
     let covered = octets::slice(&room, 0, message.len());
-    io::write_all(1, b" ");
-    test_kit::print_bytes(covered);
-    show_tags(cipher, begun.registers, data, message, covered, n);
+    rt.write_all(b" ")?;
+    test_kit::print_bytes(rt, covered)?;
+    show_tags(rt, cipher, begun.registers, data, message, covered, n)
 }
 
 // A case, which sets nothing.
-fn try_case(kept: Registers, letter: u8, bytes: &[u8], n: usize, count: usize) {
+fn try_case(
+    rt: &impl Print,
+    kept: Registers,
+    letter: u8,
+    bytes: &[u8],
+    n: usize,
+    count: usize,
+) -> io::Result<()> {
     let word = octets::number_at(bytes, 0, 8);
     match letter {
-        b't' => show_word(kept.tag()),
-        b'w' => show_strode(walk(kept, word, n)),
-        b'o' => show_strode(kept.stride(word)),
-        b'e' => show(encipher(kept, bytes, n)),
-        b'h' => show(here(kept, bytes)),
+        b't' => show_word(rt, kept.tag()),
+        b'w' => show_strode(rt, walk(kept, word, n)),
+        b'o' => show_strode(rt, kept.stride(word)),
+        b'e' => show(rt, encipher(rt, kept, bytes, n)?),
+        b'h' => show(rt, here(rt, kept, bytes)?),
         b'c' => {
             let rest = octets::slice(bytes, n, 48);
-            show(encipher(
-                encipher(kept, octets::slice(bytes, 0, n), n),
-                rest,
-                rest.len(),
-            ));
+            let half = encipher(rt, kept, octets::slice(bytes, 0, n), n)?;
+            show(rt, encipher(rt, half, rest, rest.len())?)
         }
-        b'p' => show(absorb_in_two(kept, bytes, n)),
+        b'p' => show(rt, absorb_in_two(kept, bytes, n)),
         b'u' => {
             let behind = kept.stride(0);
-            show(absorb_under_in_two(kept, behind.next, bytes, n));
+            show(rt, absorb_under_in_two(kept, behind.next, bytes, n))
         }
-        _ => differ(kept, word, n, count),
+        _ => differ(rt, kept, word, n, count),
     }
 }
 
 // A row, with its bytes and numbers. It answers the registers from which the next row sets out.
-fn run(kept: Registers, letter: u8, bytes: &[u8], n: usize, count: usize) -> Registers {
+fn run(
+    rt: &impl Print,
+    kept: Registers,
+    letter: u8,
+    bytes: &[u8],
+    n: usize,
+    count: usize,
+) -> io::Result<Registers> {
     let rest = octets::slice(bytes, n, 48);
     let first = octets::slice(bytes, 0, n);
     let next = match letter {
         b'r' => registers(bytes),
-        b'm' => show_made(Registers::new(first, rest)),
-        b'b' => show_made(Registers::new_tag(first, rest)),
+        b'm' => show_made(rt, Registers::new(first, rest))?,
+        b'b' => show_made(rt, Registers::new_tag(first, rest))?,
         b'a' => triad_runs::absorb(kept, bytes),
         _ => {
-            try_case(kept, letter, bytes, n, count);
-            return kept;
+            try_case(rt, kept, letter, bytes, n, count)?;
+            return Ok(kept);
         }
     };
-    show(next);
-    next
+    show(rt, next)?;
+    Ok(next)
 }
 
-fn run_vector(row: &[u8], bytes: &[u8], n: usize) {
-    let mut data_room = io::buffer();
-    let mut message_room = io::buffer();
+fn run_vector(rt: &impl Print, row: &[u8], bytes: &[u8], n: usize) -> io::Result<()> {
+    let mut data_room = [0; ROOM];
+    let mut message_room = [0; ROOM];
     vector(
+        rt,
         octets::slice(bytes, 0, triad::KEY_BYTES),
         octets::slice(bytes, triad::KEY_BYTES, triad::VALUE_BYTES),
         test_kit::field_bytes(row, 3, &mut data_room),
         test_kit::field_bytes(row, 4, &mut message_room),
         n,
-    );
+    )
 }
 
-fn run_line(kept: Registers, row: &[u8], letter: u8) -> Registers {
+fn run_line(rt: &impl Print, kept: Registers, row: &[u8], letter: u8) -> io::Result<Registers> {
     let mut room = untouched();
     let n = test_kit::field_number(row, 2) as usize;
     let count = test_kit::field_number(row, 3) as usize;
     let bytes = test_kit::field_bytes(row, 1, &mut room);
-    io::write_all(1, row);
-    io::write_all(1, b":");
+    rt.write_all(row)?;
+    rt.write_all(b":")?;
     let mut next = kept;
     if letter == b'v' {
-        run_vector(row, bytes, n);
+        run_vector(rt, row, bytes, n)?;
     } else {
-        next = run(kept, letter, bytes, n, count);
+        next = run(rt, kept, letter, bytes, n, count)?;
     }
-    io::write_all(1, b"\n");
-    next
+    rt.write_all(b"\n")?;
+    Ok(next)
 }
 
-fn run_all(rows: &[u8]) {
+fn run_all(rt: &impl Print, rows: &[u8]) -> io::Result<()> {
     let mut kept = registers(rows);
-    let mut i = 0;
-    while i < rows.len() {
+    for i in 0..rows.len() {
         let row = test_kit::line(rows, i);
         if row.len() == 0 {
-            return;
+            break;
         }
-        if !test_kit::heading(row) {
-            kept = run_line(kept, row, row[0]);
+        if !test_kit::heading(rt, row)? {
+            kept = run_line(rt, kept, row, row[0])?;
         }
-        i += 1;
     }
+    Ok(())
 }
 
-fn main() {
-    let mut input = io::large_buffer();
-    let got = io::read_full(0, &mut input);
-    run_all(&input[..got]);
+fn main(rt: HostRuntime) -> io::Result<()> {
+    let rows = test_kit::read_rows(&rt)?;
+    run_all(&rt, &rows)
 }

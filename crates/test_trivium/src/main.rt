@@ -1,3 +1,5 @@
+#![tactic(auto)]
+
 // Trivium by rows: the standard's test vector, the engines against each other, and how calls fit together. The program
 // keeps registers. A row sets them, or is a case that sets out from them; its first letter tells which:
 //
@@ -15,6 +17,7 @@
 // register does not have; they print in how many of these the engines differ.
 ghost use Rattle.std.specs.Prelude.{◌≡◌, length};
 
+use std::io;
 use trivium::{Registers, Running, Strode};
 
 // One more than the highest upper word of each register: 29, 20 and 47 bits.
@@ -41,23 +44,22 @@ fn registers(words: &[u8]) -> Registers {
     }
 }
 
-fn show_word(word: u64) {
-    io::write_all(1, b" ");
-    io::print_hex(1, word, 16);
+fn show_word(rt: &impl Print, word: u64) -> io::Result<()> {
+    print!(rt; " {word:016x}")
 }
 
-fn show(x: Registers) {
-    show_word(x.a1);
-    show_word(x.a0);
-    show_word(x.b1);
-    show_word(x.b0);
-    show_word(x.c1);
-    show_word(x.c0);
+fn show(rt: &impl Print, x: Registers) -> io::Result<()> {
+    show_word(rt, x.a1)?;
+    show_word(rt, x.a0)?;
+    show_word(rt, x.b1)?;
+    show_word(rt, x.b0)?;
+    show_word(rt, x.c1)?;
+    show_word(rt, x.c0)
 }
 
-fn show_strode(x: Strode) {
-    show_word(x.word);
-    show(x.next);
+fn show_strode(rt: &impl Print, x: Strode) -> io::Result<()> {
+    show_word(rt, x.word)?;
+    show(rt, x.next)
 }
 
 // Whether x is y with no bit above a register's own.
@@ -74,12 +76,10 @@ fn trims(x: Registers, y: Registers) -> bool {
 fn walk(from: Registers, steps: usize) -> Strode {
     let mut next = from;
     let mut word: u64 = 0;
-    let mut left = steps;
-    while 0 < left {
+    for _ in 0..steps {
         let stepped = next.step();
         word = (word << 1) ^ (stepped.bit as u64);
         next = stepped.next;
-        left -= 1;
     }
     Strode { word, next }
 }
@@ -107,11 +107,17 @@ fn skips_agree(from: Registers, steps: usize, input: &[u8]) -> bool {
 }
 
 // Contents of which each but the first has a new word, and the words of the one before it a place further.
-fn differ(from: Registers, input: &[u8], steps: usize, count: usize, by_strides: bool) {
+fn differ(
+    rt: &impl Print,
+    from: Registers,
+    input: &[u8],
+    steps: usize,
+    count: usize,
+    by_strides: bool,
+) -> io::Result<()> {
     let mut contents = from;
     let mut differ: u64 = 0;
-    let mut left = count;
-    while 0 < left {
+    for _ in 0..count {
         let agree = if by_strides {
             strides_agree(contents, steps)
         } else {
@@ -129,80 +135,92 @@ fn differ(from: Registers, input: &[u8], steps: usize, count: usize, by_strides:
             c1: last.b0,
             c0: last.c1,
         };
-        left -= 1;
     }
-    test_kit::print_number(b" differ ", differ);
+    test_kit::print_number(rt, b" differ ", differ)
 }
 
 // An array's length is known where it is lent as an array, also after a part of it was lent.
-fn show_output(output: &[u8; 48], room: usize) {
-    io::write_all(1, b" ");
-    test_kit::print_bytes(octets::slice(output, 0, room));
+fn show_output(rt: &impl Print, output: &[u8; 48], room: usize) -> io::Result<()> {
+    rt.write_all(b" ")?;
+    test_kit::print_bytes(rt, octets::slice(output, 0, room))
 }
 
-fn encipher(from: Registers, input: &[u8], output_bytes: usize) -> Registers {
+fn encipher(
+    rt: &impl Print,
+    from: Registers,
+    input: &[u8],
+    output_bytes: usize,
+) -> io::Result<Registers> {
     let mut output = untouched();
     let room = output_bytes % 49;
     let enciphered = from.encipher(input, &mut output[0..room]);
-    test_kit::print_number(b" ", enciphered.refusal as u64);
-    show_output(&output, room);
-    enciphered.next
+    test_kit::print_number(rt, b" ", enciphered.refusal as u64)?;
+    show_output(rt, &output, room)?;
+    Ok(enciphered.next)
 }
 
 // A row, with its bytes and numbers. It answers the registers from which the next row sets out.
-fn run(kept: Registers, letter: u8, bytes: &[u8], n: usize, count: usize) -> Registers {
+fn run(
+    rt: &impl Print,
+    kept: Registers,
+    letter: u8,
+    bytes: &[u8],
+    n: usize,
+    count: usize,
+) -> io::Result<Registers> {
     let rest = octets::slice(bytes, n, 48);
     let first = octets::slice(bytes, 0, n);
     let mut next = kept;
     match letter {
         b'r' => {
             next = registers(bytes);
-            show(next);
+            show(rt, next)?;
         }
         b'm' => {
             let made = trivium_seek::make(first, rest);
-            test_kit::print_number(b" ", made.refusal as u64);
+            test_kit::print_number(rt, b" ", made.refusal as u64)?;
             next = made.registers;
-            show(next);
+            show(rt, next)?;
         }
-        b'w' => show_strode(walk(kept, n)),
-        b'o' => show_strode(kept.stride()),
-        b'e' => show(encipher(kept, bytes, n)),
-        b'c' => show(encipher(encipher(kept, first, n), rest, rest.len())),
-        _ => differ(kept, bytes, n, count, letter == b's'),
+        b'w' => show_strode(rt, walk(kept, n))?,
+        b'o' => show_strode(rt, kept.stride())?,
+        b'e' => show(rt, encipher(rt, kept, bytes, n)?)?,
+        b'c' => {
+            let half = encipher(rt, kept, first, n)?;
+            show(rt, encipher(rt, half, rest, rest.len())?)?;
+        }
+        _ => differ(rt, kept, bytes, n, count, letter == b's')?,
     }
-    next
+    Ok(next)
 }
 
-fn run_line(kept: Registers, row: &[u8], letter: u8) -> Registers {
+fn run_line(rt: &impl Print, kept: Registers, row: &[u8], letter: u8) -> io::Result<Registers> {
     let mut room = untouched();
     let n = test_kit::field_number(row, 2);
     let count = test_kit::field_number(row, 3);
     let bytes = test_kit::field_bytes(row, 1, &mut room);
-    io::write_all(1, row);
-    io::write_all(1, b":");
-    let next = run(kept, letter, bytes, n as usize, count as usize);
-    io::write_all(1, b"\n");
-    next
+    rt.write_all(row)?;
+    rt.write_all(b":")?;
+    let next = run(rt, kept, letter, bytes, n as usize, count as usize)?;
+    rt.write_all(b"\n")?;
+    Ok(next)
 }
 
-fn run_all(rows: &[u8]) {
+fn run_all(rt: &impl Print, rows: &[u8]) -> io::Result<()> {
     let mut kept = registers(rows);
-    let mut i = 0;
-    while i < rows.len() {
+    for i in 0..rows.len() {
         let row = test_kit::line(rows, i);
         if row.len() == 0 {
-            return;
+            break;
         }
-        if !test_kit::heading(row) {
-            kept = run_line(kept, row, row[0]);
+        if !test_kit::heading(rt, row)? {
+            kept = run_line(rt, kept, row, row[0])?;
         }
-        i += 1;
     }
+    Ok(())
 }
 
-fn main() {
-    let mut input = io::large_buffer();
-    let got = io::read_full(0, &mut input);
-    run_all(&input[..got]);
+fn main(rt: HostRuntime) -> io::Result<()> {
+    let rows = test_kit::read_rows(&rt)?;
+    run_all(&rt, &rows)
 }
