@@ -14,7 +14,7 @@ use Rattle.frames.specs.declared.Told.TheVariants as the_told
 use Rattle.receiver.specs.Receiver.{for_receiver, frame_faults, room_faults, receive_faults, taking}
 use Rattle.receiver.specs.declared.Receiver.{Receiver}
 use Rattle.receiver.proofs.{Receivers.frame_numbered, fault.Statement.statement}
-use Rattle.receiver.proofs.fault.Goals.{in-Opening, in-Block, in_default}
+use Rattle.receiver.proofs.fault.Lts.{in-Opening, in-Block, in_default}
 use Rattle.receiver.proofs.fault.Tie as tie
 
 -- what tells neither of an opening nor of a block

@@ -17,7 +17,7 @@ use Rattle.frames.proofs.FramesWritten.{short, length_short}
 use Rattle.receiver.specs.Receiver.{content_faults, receive_faults}
 use Rattle.receiver.proofs.Receivers.{none_broken, refused_so_lem, received_so}
 use Rattle.receiver.proofs.Receiver.hear.Statement.{statement}
-use Rattle.receiver.proofs.Receiver.hear.Goals.{then-step, else-step}
+use Rattle.receiver.proofs.Receiver.hear.Lts.{then-step, else-step}
 use Rattle.receiver.proofs.Receiver.hear.Tie as tie
 
 -- the message is what was told, with the bytes from its byte 8 on
