@@ -22,7 +22,7 @@ told o = reception (receiver_bytes o.answer.receiver) o.sound o.reply o.answer.l
 
 -- the receiver's own outcome, for the record that the bytes are
 own : (h : tie.After-hear-taken) → let p = h.args in
-    received h.hear-taken.result h.hear-taken.new.1.1.0 h.hear-taken.new.1.1.1.0
+    received h.hear-taken.result h.hear-taken.new.sound h.hear-taken.new.answer
     ≡ receiving trivium (receiver_in p.receiver.now) p.sound.now p.answer.now p.frame.now
 own h =
     let p = h.args in
@@ -55,7 +55,7 @@ returns-2 c =
     let next = h.hear-taken.result.receiver in
     let rule = first_right _ _ tt (sym (answer_number _ _ _ (λ o. o.answer.refusal) refl (λ m. refl) (own h)) ∙ z) in
     let long = length_receiver next (sizes h).0 (sizes h).1 ∙ sym (in_rule_size p.receiver.now rule) in
-    ap (λ (l : List ℕ). reception l h.hear-taken.new.1.1.0 h.hear-taken.new.1.1.1.0
+    ap (λ (l : List ℕ). reception l h.hear-taken.new.sound h.hear-taken.new.answer
     h.hear-taken.result.length accepted)
     (c.before.before.write_receiver.ensures ∙ put_whole p.receiver.now (receiver_bytes next) long)
     ∙ over_done _ _ _ (λ o. o.answer.refusal) refl (λ m. refl) (own h) told
