@@ -19,7 +19,7 @@ returns c = put_none _ _ _ (omega arith)
 
 returns-2 : tie.Need-returns-then-buffer-at-2
 returns-2 c =
-    let p = c.before.before.before.before.args in
+    let p = c.args in
     let long = length_covered trivium p.key.now p.pair.now p.session p.k p.run.now in
     put_none _ _ _ (omega arith)
 
@@ -28,7 +28,7 @@ unfolding covered
 returns-3 c =
     let call = c.before.before in
     let got = call.before.before.cipher-registers in
-    let p = call.before.before.before.before.before.before.before.before.before.args in
+    let p = call.args in
     let d : List ℕ = p.buffer.now in
     let run : List ℕ = p.run.now in
     let all : List ℕ = covered trivium p.key.now p.pair.now p.session p.k run in

@@ -22,15 +22,15 @@ byte m at h = alone (get_or m at 0) ∙ ap (number 256) (slice_read m at 0 0 (om
 
 -- the first byte, and with it the one that counts a block's
 kind : (c : tie.After-four_at-session)
-    → let m = c.before.before.before.before.args.message.now in get_or m 0 0 ≡ number_at m 0 1
-kind c = byte c.before.before.before.before.args.message.now 0 (omega arith)
+    → let m = c.args.message.now in get_or m 0 0 ≡ number_at m 0 1
+kind c = byte c.args.message.now 0 (omega arith)
 
 count : (c : tie.After-shared_slice_known-3-1) → let e = c.before.before.before.before.before.before.before in
-    let m = e.before.before.before.before.args.message.now in
+    let m = e.args.message.now in
     (get_or m 0 0 ≡ number_at m 0 1) × (get_or m 7 0 ≡ number_at m 7 1)
 count c =
     let e = c.before.before.before.before.before.before.before in
-    (kind e, byte e.before.before.before.before.args.message.now 7 (omega arith))
+    (kind e, byte e.args.message.now 7 (omega arith))
 
 returns-3 : tie.Need-returns-then-kind-eq-TOO_LONG
 returns-3 c =

@@ -31,13 +31,13 @@ module _ (key pair : List ℕ) (session k : ℕ) where
 
 returns : tie.Need-returns-then-frame-lt8
 returns c =
-    let p = c.before.before.before.before.args in
+    let p = c.args in
     no_room p.key.now p.pair.now p.session p.k p.frame.now c.before.slice-run.ensures (omega arith)
 
 returns-2 : tie.Need-returns-then-frame-n
 returns-2 c =
     let sliced = c.before.before in
-    let p = sliced.before.before.before.args in
+    let p = sliced.args in
     no_room p.key.now p.pair.now p.session p.k p.frame.now sliced.slice-run.ensures (omega arith)
 
 returns-3 : tie.Need-returns
@@ -46,7 +46,7 @@ returns-3 c =
     let counted = covering.before.before.before.before in
     let headed = counted.before.before.before.before in
     let sliced = headed.before.before.before.before in
-    let p = sliced.before.before.before.args in
+    let p = sliced.args in
     let d : List ℕ = p.frame.now in
     let R = sliced.slice-run.result.now in
     let run : List ℕ = covered trivium p.key.now p.pair.now p.session p.k R in

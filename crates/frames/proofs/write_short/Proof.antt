@@ -27,7 +27,7 @@ returns-3 c =
     let three = c.before.before in
     let two = three.before.before.before.before in
     let one = two.before.before.before.before in
-    let p = one.before.before.before.before.before.args in
+    let p = one.args in
     let long = length_short p.kind p.session p.width p.number in
     with_number (λ (n : ℕ). put two.write_number-2.new.d 5 (digits 256 p.width n)) p.number
     three.write_number-3.ensures (omega arith)

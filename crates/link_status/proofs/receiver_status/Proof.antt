@@ -19,7 +19,7 @@ returns c =
     let rule = w.before in
     let count = rule.before in
     let read = count.before.before in
-    let p = read.before.before.before.args in
+    let p = read.args in
     let r : Receiver = read.receiver_in-record.result in
     let blocks-in = count.block_count-all.ensures in
     t.tell_status.ensures

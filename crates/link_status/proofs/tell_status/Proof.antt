@@ -2,7 +2,7 @@
 use mathlib.Core.{List.List, Path.ap, Path.◌∙◌}
 use Prim.Native.Nat.{ℕ}
 use native.Mathlib.Omega.{arith}
-use borrow.Author.{Rules.rules, Tests.not-true, Tests.not-false}
+use borrow.Author.Rules.{rules}
 use Rattle.octets.proofs.Buffers.{put_placed}
 use Rattle.refusals.specs.{Numbers.accepted, Outcome.outcome}
 use Rattle.refusals.proofs.Settled.{left_at, done_if}
@@ -10,18 +10,17 @@ use Rattle.link_status.proofs.tell_status.Statement.{statement}
 use Rattle.link_status.proofs.tell_status.Tie as tie
 
 returns : tie.Need-returns-then-not-in_rule
-returns c = left_at _ _ _ 0 tt (search (rules, not-true))
+returns c = left_at _ _ _ 0 tt (search rules)
 
 returns-2 : tie.Need-returns-then-answer-lt-NUMBERS
-returns-2 c = left_at _ _ _ 1 tt (search (rules, not-false), omega arith)
+returns-2 c = left_at _ _ _ 1 tt (search rules, omega arith)
 
 returns-3 : tie.Need-returns
 returns-3 c =
-    let room = c.before.before.before.before.before in
-    let p = room.before.before.before.args in
+    let p = c.args in
     ap (λ (l : List ℕ). outcome accepted l)
-    (c.before.before.write_numbers.ensures ∙ put_placed p.answer.now 0 _ (omega arith))
-    ∙ done_if _ _ _ (not-false _ room.before.if-not-in_rule.false, (room.if-answer-lt-NUMBERS.false, tt))
+    (c.write_numbers.ensures ∙ put_placed p.answer.now 0 _ (omega arith))
+    ∙ done_if _ _ _ (search rules, (omega arith, tt))
 
 pub tell_status_spec : {M : Type 1} → statement M
 tell_status_spec =

@@ -22,13 +22,13 @@ module _ (session held all : ℕ) where
   some_left h e = rw (le-leb 1 session h, ne_eqb held all e)
 
 returns : tie.Need-returns-then-session-eq0
-returns c = let p = c.before.args in none p.session p.held p.all (omega arith)
+returns c = let p = c.args in none p.session p.held p.all (omega arith)
 
 returns-2 : tie.Need-returns-then-held-all
-returns-2 c = let p = c.before.before.args in all_held p.session p.held p.all (omega arith) (omega arith)
+returns-2 c = let p = c.args in all_held p.session p.held p.all (omega arith) (omega arith)
 
 returns-3 : tie.Need-returns-else-held-all
-returns-3 c = let p = c.before.before.args in some_left p.session p.held p.all (omega arith) (omega arith)
+returns-3 c = let p = c.args in some_left p.session p.held p.all (omega arith) (omega arith)
 
 pub whole_flag_spec : {M : Type 1} → statement M
 whole_flag_spec = tie.close (tie.spec returns returns-2 returns-3)

@@ -12,7 +12,7 @@ use Rattle.receiver.proofs.in_rule.Tie as tie
 returns : tie.Need-returns
 unfolding receiver_in_rule
 returns c o =
-    let p = c.before.args in
+    let p = c.args in
     let begun = some p.session || (eqb p.total 0 && eqb p.count 0) in
     ap (λ (n : ℕ). leb p.total longest && (begun && leb p.count n)) c.block_count.ensures
 

@@ -5,9 +5,7 @@ use mathlib.Core.List.{List, [], ◌∷◌}
 use Prim.Native.Nat.{ℕ, ◌+◌}
 use native.Mathlib.Omega.{arith}
 use borrow.Author.{Rules.rules, Tests.eq-eqb, Tests.ne_eqb, Tests.lt-ltb, Tests.le-ltb}
-use denote.Enum.Declared.{tag_of}
 use lib.ListN.{length}
-use types.Run.{OneOf, miss}
 use Rattle.octets.specs.{Buffers.placed, Buffers.put, Rows.row}
 use Rattle.octets.proofs.Buffers.{put_placed}
 use Rattle.refusals.specs.Rules.{AllRight}
@@ -16,7 +14,7 @@ use Rattle.blocks.specs.{Blocks.place, Covering.covered}
 use Rattle.blocks.proofs.Covering.{length_covered}
 use Rattle.frames.specs.{Frames.bytes, Told.heard_as, declared.Told.Told}
 use Rattle.frames.specs.declared.Told.TheVariants as the_told
-use Rattle.frames.proofs.{Told.the_type, FramesWritten.short_holds, FramesWritten.short_too_long}
+use Rattle.frames.proofs.{FramesWritten.short_holds, FramesWritten.short_too_long}
 use Rattle.receiver.specs.{declared.Receiver.Receiver, declared.Step.Step}
 use Rattle.receiver.specs.Receiver.{content_faults, taking, Effect, still_held, on_frame}
 use Rattle.receiver.proofs.{Receivers.count_below, on_frame.Statement.statement}
@@ -41,10 +39,6 @@ so : (r : Receiver) (s : Step) (run lent : List ℕ) {what t : Told} {e : Effect
 so r s run lent p q says =
     subst (Says r s run lent) (sym (ap (λ (t : Told). on_frame trivium r lent (heard_as run t)) p ∙ q)) says
 
--- the receiver with the numbers given
-abbrev with_numbers : Receiver → tie.Start → Receiver
-with_numbers o c = taking o c.args.session c.args.total c.args.count
-
 still : (r : Receiver) (run lent : List ℕ)
     → Says r (step r.session r.length r.count false 3 r.session 2) run lent (still_held r lent)
 unfolding Says
@@ -55,10 +49,10 @@ unfolding Says
 returns c = (
   omega arith,
   λ o run lent fits same.
-      let t = c.before.before in
-      let r = with_numbers o t.before.before in
-      so r (step r.session r.length r.count false 3 r.session 2) run lent t.what-1.given.1
-      (rw (eq-eqb t.what-1.given.0.0 r.session (omega arith))) (still r run lent),
+      let p = c.args in
+      let r = taking o p.session p.total p.count in
+      so r (step r.session r.length r.count false 3 r.session 2) run lent c.in-Opening.is
+      (rw (eq-eqb c.in-Opening.named r.session (omega arith))) (still r run lent),
 )
 
 returns-2 : tie.Need-returns-then-sound-long
@@ -66,12 +60,12 @@ unfolding Says
 returns-2 c = (
   omega arith,
   λ o run lent fits same.
-      let t = c.before.before.before in
-      let r = with_numbers o t.before.before in
-      let got = t.what-1.given.0 in
-      so r (step r.session r.length r.count false 4 got.0 0) run lent t.what-1.given.1
-      (rw (ne_eqb got.0 r.session (omega arith), lt-ltb (length lent) got.1.0 (omega arith)))
-      (refl, refl, sym (short_too_long got.0 r.count)),
+      let p = c.args in
+      let r = taking o p.session p.total p.count in
+      let got = c.in-Opening in
+      so r (step r.session r.length r.count false 4 got.named 0) run lent got.is
+      (rw (ne_eqb got.named r.session (omega arith), lt-ltb (length lent) got.long (omega arith)))
+      (refl, refl, sym (short_too_long got.named r.count)),
 )
 
 returns-4 : tie.Need-returns-else-sound-long
@@ -79,12 +73,12 @@ unfolding Says
 returns-4 c = (
   omega arith,
   λ o run lent fits same.
-      let t = c.before.before.before in
-      let r = with_numbers o t.before.before in
-      let got = t.what-1.given.0 in
-      so r (step got.0 got.1.0 0 false 3 got.0 2) run lent t.what-1.given.1
-      (rw (ne_eqb got.0 r.session (omega arith), le-ltb (length lent) got.1.0 (omega arith)))
-      (refl, refl, sym (short_holds got.0 0)),
+      let p = c.args in
+      let r = taking o p.session p.total p.count in
+      let got = c.in-Opening in
+      so r (step got.named got.long 0 false 3 got.named 2) run lent got.is
+      (rw (ne_eqb got.named r.session (omega arith), le-ltb (length lent) got.long (omega arith)))
+      (refl, refl, sym (short_holds got.named 0)),
 )
 
 returns-3 : tie.Need-returns-then-k-count
@@ -92,10 +86,10 @@ unfolding Says
 returns-3 c = (
   omega arith,
   λ o run lent fits same.
-      let t = c.before.before in
-      let r = with_numbers o t.before.before in
-      so r (step r.session r.length r.count false 3 r.session 2) run lent t.what-in-Block-1.given.1
-      (rw (ne_eqb t.what-in-Block-1.given.0.1.0 r.count (λ e. omega arith))) (still r run lent),
+      let p = c.args in
+      let r = taking o p.session p.total p.count in
+      so r (step r.session r.length r.count false 3 r.session 2) run lent c.in-Block.is
+      (rw (ne_eqb c.in-Block.k r.count (λ e. omega arith))) (still r run lent),
 )
 
 returns-5 : tie.Need-returns-else-k-count
@@ -103,17 +97,17 @@ unfolding Says
 returns-5 c = (
   omega arith,
   λ o run lent fits same.
-      let t = c.before.before in
-      let s = t.before.before in
-      let r = with_numbers o s in
-      let k = t.what-in-Block-1.given.0.1.0 in
+      let p = c.args in
+      let r = taking o p.session p.total p.count in
+      let k = c.in-Block.k in
       let turn : k ≡ r.count = omega arith in
       let right =
-      subst (λ (w : Told). AllRight (content_faults (with_numbers s.requires.0 s) s.args.sound (heard_as run w)))
-      t.what-in-Block-1.given.1 (s.requires.1.1 run fits) in
+      subst (λ (w : Told). AllRight (content_faults (taking c.requires.0 p.session p.total p.count) p.sound
+      (heard_as run w)))
+      c.in-Block.is (c.requires.1.1 run fits) in
       let cover : ℕ → List ℕ = λ n. covered trivium r.key r.pair r.session n run in
       let long = length_covered trivium r.key r.pair r.session r.count run in
-      so r (step r.session r.length (k + 1) true 3 r.session 2) run lent t.what-in-Block-1.given.1
+      so r (step r.session r.length (k + 1) true 3 r.session 2) run lent c.in-Block.is
       (rw (eq-eqb k r.count turn)) (
         refl,
         (λ j. placed lent (place (turn j)) (cover (turn j)))
@@ -124,27 +118,28 @@ returns-5 c = (
 
 add-count : tie.Need-overflow_add-result
 add-count c =
-    let s = c.before.before.before.before in
-    omega (arith, count_below (with_numbers s.requires.0 s) s.requires.1.0)
+    let p = c.args in
+    omega (arith, count_below (taking c.requires.0 p.session p.total p.count) c.requires.1.0)
 
 -- what is no frame for this end changes nothing
-other : (r : Receiver) (run lent : List ℕ) (t : Told) → OneOf (0 ∷ 3 ∷ 4 ∷ []) (tag_of the_type t)
+other : (r : Receiver) (run lent : List ℕ) (t : Told) → ((session sound : ℕ) → t ≡ the_told.Opening session sound → ⊥)
+    → ((session k n : ℕ) → t ≡ the_told.Block session k n → ⊥)
     → on_frame trivium r lent (heard_as run t) ≡ still_held r lent
-other r run lent the_told.Nothing k = refl
-other r run lent (the_told.Opening session sound) k = absurd (miss (0 ∷ 3 ∷ 4 ∷ []) 1 tt k)
-other r run lent (the_told.Block session number n) k = absurd (miss (0 ∷ 3 ∷ 4 ∷ []) 2 tt k)
-other r run lent (the_told.Holds session held) k = refl
-other r run lent (the_told.TooLong session) k = refl
+other r run lent the_told.Nothing o b = refl
+other r run lent (the_told.Opening session sound) o b = absurd (o session sound refl)
+other r run lent (the_told.Block session k n) o b = absurd (b session k n refl)
+other r run lent (the_told.Holds session held) o b = refl
+other r run lent (the_told.TooLong session) o b = refl
 
 returns-6 : tie.Need-returns-in_default
 unfolding Says
 returns-6 c = (
   omega arith,
   λ o run lent fits same.
-      let r = with_numbers o c.before in
-      let what = c.before.args.what in
-      so r (step r.session r.length r.count false 3 r.session 2) run lent {what = what} refl
-      (other r run lent what c.in-Opening.keys3) (still r run lent),
+      let p = c.args in
+      let r = taking o p.session p.total p.count in
+      so r (step r.session r.length r.count false 3 r.session 2) run lent {what = p.what} refl
+      (other r run lent p.what c.in_default.not-Opening c.in_default.not-Block) (still r run lent),
 )
 
 pub on_frame_spec : {M : Type 1} → statement M

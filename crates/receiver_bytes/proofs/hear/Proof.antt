@@ -18,14 +18,14 @@ use Rattle.receiver_bytes.proofs.hear.Tie as tie
 
 -- what the call tells of the receiver's own outcome
 abbrev told : Received → Reception
-told o = reception (receiver_bytes o.answer-1.receiver) o.sound-1 o.reply o.answer-1.length accepted
+told o = reception (receiver_bytes o.answer.receiver) o.sound o.reply o.answer.length accepted
 
 -- the receiver's own outcome, for the record that the bytes are
-own : (h : tie.After-hear-taken) → let p = h.before.before.before.before.before.before.before.before.before.args in
-    received h.hear-taken.result h.hear-taken.new.1.1.0 h.hear-taken.new.1.1.1.0
+own : (h : tie.After-hear-taken) → let p = h.args in
+    received h.hear-taken.result h.hear-taken.new.sound h.hear-taken.new.answer
     ≡ receiving trivium (receiver_in p.receiver.now) p.sound.now p.answer.now p.frame.now
 own h =
-    let p = h.before.before.before.before.before.before.before.before.before.args in
+    let p = h.args in
     h.hear-taken.ensures
     ∙ ap (λ (r : Receiver). receiving trivium r p.sound.now p.answer.now p.frame.now)
     h.before.before.before.receiver_in-record.ensures
@@ -39,26 +39,26 @@ returns : tie.Need-returns-then-refusal-ne-ACCEPTED
 unfolding receiver_hear receiving
 returns c =
     let h = c.before.before.before.before.before in
-    let p = h.before.before.before.before.before.before.before.before.before.args in
+    let p = h.args in
     let n : ℕ = h.hear-taken.result.refusal in
-    ap (λ (o : Received). reception p.receiver.now o.sound-1 o.reply p.written.now n)
-    (answer_left _ _ _ (λ o. o.answer-1.refusal) refl (λ m. refl) (own h) c.if-refusal-ne-ACCEPTED.true)
-    ∙ over_refused _ _ _ (λ o. o.answer-1.refusal) refl (λ m. refl) (own h) told
+    ap (λ (o : Received). reception p.receiver.now o.sound o.reply p.written.now n)
+    (answer_left _ _ _ (λ o. o.answer.refusal) refl (λ m. refl) (own h) c.if-refusal-ne-ACCEPTED.true)
+    ∙ over_refused _ _ _ (λ o. o.answer.refusal) refl (λ m. refl) (own h) told
     (reception p.receiver.now p.sound.now p.answer.now p.written.now) c.if-refusal-ne-ACCEPTED.true
 
 returns-2 : tie.Need-returns
 unfolding receiver_hear receiving
 returns-2 c =
     let h = c.before.before.before.before.before.before.before.before.before.before in
-    let p = h.before.before.before.before.before.before.before.before.before.args in
+    let p = h.args in
     let z = c.before.before.before.before.before.if-refusal-ne-ACCEPTED.false in
     let next = h.hear-taken.result.receiver in
-    let rule = first_right _ _ tt (sym (answer_number _ _ _ (λ o. o.answer-1.refusal) refl (λ m. refl) (own h)) ∙ z) in
+    let rule = first_right _ _ tt (sym (answer_number _ _ _ (λ o. o.answer.refusal) refl (λ m. refl) (own h)) ∙ z) in
     let long = length_receiver next (sizes h).0 (sizes h).1 ∙ sym (in_rule_size p.receiver.now rule) in
-    ap (λ (l : List ℕ). reception l h.hear-taken.new.1.1.0 h.hear-taken.new.1.1.1.0
+    ap (λ (l : List ℕ). reception l h.hear-taken.new.sound h.hear-taken.new.answer
     h.hear-taken.result.length accepted)
     (c.before.before.write_receiver.ensures ∙ put_whole p.receiver.now (receiver_bytes next) long)
-    ∙ over_done _ _ _ (λ o. o.answer-1.refusal) refl (λ m. refl) (own h) told
+    ∙ over_done _ _ _ (λ o. o.answer.refusal) refl (λ m. refl) (own h) told
     (reception p.receiver.now p.sound.now p.answer.now p.written.now) z
 
 pub hear_spec : {M : Type 1} → statement M

@@ -11,7 +11,7 @@ returns : tie.Need-returns-then-refusal-ne-ACCEPTED
 unfolding receiver_make making_receiver
 returns c =
     let m = c.before in
-    let p = m.before.before.before.before.args in
+    let p = m.args in
     made_refused _ _ _ (λ a. a.refusal) (λ a. receiver_bytes a.receiver) _ _ tt refl (λ n. refl)
     m.new-made.ensures c.if-refusal-ne-ACCEPTED.true
 
@@ -19,7 +19,7 @@ returns-2 : tie.Need-returns-then-receiver-lt-RECEIVER_BYTES
 unfolding receiver_make making_receiver
 returns-2 c =
     let m = c.before.before in
-    let p = m.before.before.before.before.args in
+    let p = m.args in
     made_short _ _ _ (λ a. a.refusal) (λ a. receiver_bytes a.receiver) _ _ tt refl (λ n. refl)
     m.new-made.ensures c.before.if-refusal-ne-ACCEPTED.false c.if-receiver-lt-RECEIVER_BYTES.true
 
@@ -28,7 +28,7 @@ unfolding receiver_make making_receiver
 returns-3 c =
     let room = c.before.before.before.before.before in
     let m = room.before.before in
-    let p = m.before.before.before.before.args in
+    let p = m.args in
     made_stored _ _ _ (λ a. a.refusal) (λ a. receiver_bytes a.receiver) _ _ tt refl (λ n. refl)
     m.new-made.ensures room.before.if-refusal-ne-ACCEPTED.false room.if-receiver-lt-RECEIVER_BYTES.false
     (λ h. length_receiver (fresh_receiver p.key.now p.pair.now) h.0 h.1.0)

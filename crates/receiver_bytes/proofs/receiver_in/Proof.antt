@@ -7,14 +7,14 @@ use Rattle.receiver_bytes.proofs.receiver_in.Tie as tie
 
 returns : tie.Need-returns-then-bytes-ne-RECEIVER_BYTES
 unfolding receiver_in
-returns c = rw (ne_eqb (length c.before.before.args.bytes.now) receiver_size c.if-bytes-ne-RECEIVER_BYTES.true)
+returns c = rw (ne_eqb (length c.args.bytes.now) receiver_size c.if-bytes-ne-RECEIVER_BYTES.true)
 
 returns-2 : tie.Need-returns
 unfolding receiver_in
 returns-2 c =
     let f = c.before.before.before in
     let front = f.front_in-front.ensures in
-    rw (eq-eqb (length f.before.before.before.args.bytes.now) receiver_size f.before.if-bytes-ne-RECEIVER_BYTES.false)
+    rw (eq-eqb (length f.args.bytes.now) receiver_size f.before.if-bytes-ne-RECEIVER_BYTES.false)
     (λ i. record {
       key = (front i).key;
       pair = (front i).pair;

@@ -19,7 +19,7 @@ returns-2 : tie.Need-returns
 unfolding numbers_at
 returns-2 c =
     let known = c.before.before.before.before.before.before.before in
-    let bytes = known.before.args.bytes.now in
+    let bytes = known.args.bytes.now in
     let read : (at : ℕ) → word (number_at bytes at 8) ≡ number_at bytes at 8 =
     λ at. number_read bytes at 8 (λ i. omega (arith, known.shared_slice_known-1.given i)) (omega arith) in
     ◌∙◌ {b = six_of (numbers_at six_widths bytes 0)} (λ i. record {

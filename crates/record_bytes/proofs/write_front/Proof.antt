@@ -37,16 +37,16 @@ returns-2 c =
     let f = start.args.front in
     let key : length f.key ≡ key_bytes = (sizes start).0 in
     let pair : length f.pair ≡ pair_bytes = (sizes start).1 in
-    let names : two.copy-2.new.d ≡ placed d 0 (f.key-1 ++ f.pair-1) =
+    let names : two.copy-2.new.d ≡ placed d 0 (f.key ++ f.pair) =
     two.copy-2.ensures
-    ∙ goes_on d 0 f.key-1 f.pair-1 (one.copy.ensures ∙ put_placed d 0 f.key-1 (omega arith)) (omega arith)
+    ∙ goes_on d 0 f.key f.pair (one.copy.ensures ∙ put_placed d 0 f.key (omega arith)) (omega arith)
     (omega arith) in
-    let room : length two.copy-2.new.0 ≡ length d =
-    ap length names ∙ length_placed d 0 (f.key-1 ++ f.pair-1) (rw length-append (omega arith)) in
+    let room : length two.copy-2.new.d ≡ length d =
+    ap length names ∙ length_placed d 0 (f.key ++ f.pair) (rw length-append (omega arith)) in
     four.write_number-2.ensures
     ∙ ap (λ (l : List ℕ). put l 20 (digits 256 4 f.length)) three.write_number.ensures
-    ∙ row_written two.copy-2.new.0 front_widths (front_numbers f) 16 (omega arith)
-    ∙ goes_on d 0 (f.key-1 ++ f.pair-1) (row front_widths (front_numbers f)) names (rw length-append (omega arith))
+    ∙ row_written two.copy-2.new.d front_widths (front_numbers f) 16 (omega arith)
+    ∙ goes_on d 0 (f.key ++ f.pair) (row front_widths (front_numbers f)) names (rw length-append (omega arith))
     (omega (arith, length_row front_widths (front_numbers f)))
     ∙ sym (put_placed d 0 (front_bytes f) (rw (length_front f key pair) (omega arith)))
 

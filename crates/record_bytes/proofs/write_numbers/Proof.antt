@@ -14,10 +14,10 @@ abbrev decreases-loop : tie.decreases-loop-i
 decreases-loop d₀ numbers i₀ d i = length numbers - i
 
 returns : tie.Need-returns-then-d-numbers invariant-loop decreases-loop
-returns c = let p = c.before.args in put_none p.d.now 0 p.numbers.now (omega arith)
+returns c = let p = c.args in put_none p.d.now 0 p.numbers.now (omega arith)
 
 loop-holds : tie.Need-loop-i-init invariant-loop decreases-loop
-loop-holds c = let p = c.before.args in (omega arith, refl, paste-zero p.d.now 0 p.numbers.now)
+loop-holds c = let p = c.args in (omega arith, refl, paste-zero p.d.now 0 p.numbers.now)
 
 -- number k of the run in place i, where k is i
 stored : (d numbers : List ℕ) (i : ℕ) {e : List ℕ} {k : ℕ} → e ≡ d → k ≡ i
@@ -26,7 +26,7 @@ stored d numbers i p q = ap₂ (λ (e : List ℕ) (k : ℕ). set e i (get_or num
 
 loop-again : tie.Need-loop-i-preserved invariant-loop decreases-loop
 loop-again c =
-    let p = c.before.before.before.before.args in
+    let p = c.args in
     let l = c.before.before.loop-i in (
       omega arith,
       length-set l.d l.i _ ∙ l.invariant.1,
@@ -36,7 +36,7 @@ loop-again c =
 
 returns-2 : tie.Need-returns invariant-loop decreases-loop
 returns-2 c =
-    let p = c.before.before.before.args in
+    let p = c.args in
     let l = c.before.loop-i in
     l.invariant.2 ∙ paste_all p.d.now 0 p.numbers.now l.i (omega arith) (omega arith)
 

@@ -16,7 +16,7 @@ then at x d = put d at (digits 256 8 x)
 returns : tie.Need-returns-then-d-lt-SIX_WORDS_BYTES
 unfolding six_bytes
 returns c =
-    let p = c.before.before.args in
+    let p = c.args in
     put_none p.d.now 0 (six_bytes p.words)
     (rw (length_row six_widths (six_numbers p.words)) (omega arith))
 
@@ -29,7 +29,7 @@ returns-2 c =
     let three = four.before.before.before.before in
     let two = three.before.before.before.before in
     let one = two.before.before.before.before in
-    let p = one.before.before.before.before.args in
+    let p = one.args in
     let r = p.words in
     six.write_word-6.ensures
     ∙ ap (then 40 r.c0) (five.write_word-5.ensures

@@ -11,11 +11,9 @@ use Rattle.sender_bytes.proofs.begin.Tie as tie
 
 -- the sender's own answer, for the record that the bytes are
 own : (b : tie.After-begin-begun)
-    → let p = b.before.before.before.before.before.args in b.begin-begun.result ≡ beginning
-    (sender_in p.sender.now) p.sound.now
+    → let p = b.args in b.begin-begun.result ≡ beginning (sender_in p.sender.now) p.sound.now
 own b =
-    let p =
-    b.before.before.before.before.before.args in b.begin-begun.ensures
+    let p = b.args in b.begin-begun.ensures
     ∙ ap (λ (s : Sender). beginning s p.sound.now) b.before.sender_in-record.ensures
 
 -- the lengths of its two arrays

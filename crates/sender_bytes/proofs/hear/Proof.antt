@@ -11,11 +11,9 @@ use Rattle.sender_bytes.proofs.hear.Tie as tie
 
 -- the sender's own answer, for the record that the bytes are
 own : (b : tie.After-hear-heard)
-    → let p = b.before.before.before.before.before.args in b.hear-heard.result ≡ hearing (sender_in p.sender.now)
-    p.frame.now
+    → let p = b.args in b.hear-heard.result ≡ hearing (sender_in p.sender.now) p.frame.now
 own b =
-    let p =
-    b.before.before.before.before.before.args in b.hear-heard.ensures
+    let p = b.args in b.hear-heard.ensures
     ∙ ap (λ (s : Sender). hearing s p.frame.now) b.before.sender_in-record.ensures
 
 -- the lengths of its two arrays

@@ -12,7 +12,7 @@ returns : tie.Need-returns-then-refusal-ne-ACCEPTED
 unfolding sender_make making_sender
 returns c =
     let m = c.before in
-    let p = m.before.before.before.before.args in
+    let p = m.args in
     made_refused _ _ _ (λ a. a.refusal) (λ a. sender_bytes a.sender) _ _ tt refl (λ n. refl)
     m.new-made.ensures c.if-refusal-ne-ACCEPTED.true
 
@@ -20,7 +20,7 @@ returns-2 : tie.Need-returns-then-sender-lt-SENDER_BYTES
 unfolding sender_make making_sender
 returns-2 c =
     let m = c.before.before in
-    let p = m.before.before.before.before.args in
+    let p = m.args in
     made_short _ _ _ (λ a. a.refusal) (λ a. sender_bytes a.sender) _ _ tt refl (λ n. refl)
     m.new-made.ensures c.before.if-refusal-ne-ACCEPTED.false c.if-sender-lt-SENDER_BYTES.true
 
@@ -29,7 +29,7 @@ unfolding sender_make making_sender
 returns-3 c =
     let room = c.before.before.before.before.before in
     let m = room.before.before in
-    let p = m.before.before.before.before.args in
+    let p = m.args in
     made_stored _ _ _ (λ a. a.refusal) (λ a. sender_bytes a.sender) _ _ tt refl (λ n. refl)
     m.new-made.ensures room.before.if-refusal-ne-ACCEPTED.false room.if-sender-lt-SENDER_BYTES.false
     (λ h. length_sender (fresh_sender p.key.now p.pair.now) h.0 h.1.0)

@@ -15,7 +15,7 @@ returns : tie.Need-returns-then-refusal-ne-ACCEPTED
 unfolding sender_send sending
 returns c =
     let s = c.before.before.before in
-    let p = s.before.before.before.before.before.before.args in
+    let p = s.args in
     let n : ℕ = s.send-sent.result.refusal in
     let e =
     s.send-sent.ensures
@@ -29,7 +29,7 @@ returns-2 : tie.Need-returns
 unfolding sender_send sending
 returns-2 c =
     let s = c.before.before.before in
-    let p = s.before.before.before.before.before.before.args in
+    let p = s.args in
     let e =
     s.send-sent.ensures
     ∙ ap (λ (x : Sender). sending trivium x p.sound.now p.frame.now) s.before.before.sender_in-record.ensures in

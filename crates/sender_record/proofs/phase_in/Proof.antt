@@ -6,7 +6,7 @@ use Rattle.sender_record.proofs.phase_in.Tie as tie
 
 returns : tie.Need-returns-then-number-eq0
 unfolding phase_in
-returns c = rw (eq-eqb c.before.args.number 0 c.if-number-eq0.true)
+returns c = rw (eq-eqb c.args.number 0 c.if-number-eq0.true)
 
 returns-2 : tie.Need-returns-then-number-eq1
 unfolding phase_in
@@ -23,7 +23,7 @@ returns-4 c = rw c.if-number-eq3.true
 returns-5 : tie.Need-returns
 unfolding phase_in
 returns-5 c =
-    let n = c.before.before.before.before.args.number in
+    let n = c.args.number in
     rw (
       ne_eqb n 0 c.before.before.before.if-number-eq0.false,
       ne_eqb n 1 c.before.before.if-number-eq1.false,

@@ -15,8 +15,8 @@ phase_numbers_spec =
     tie.close
     (tie.spec (λ c. search rules) (λ c. search rules) (λ c. search rules) (λ c. search rules) (λ c. search rules)
     (λ c. search rules)
-    (λ c. ap phase_numbers (sym c.in-Idle.given.1))
-    (λ c. ap phase_numbers (sym c.enum_told-in-Opening-1.given.1))
-    (λ c. ap phase_numbers (sym c.before.phase-1.given.1))
-    (λ c. ap phase_numbers (sym c.enum_told-in-Done-1.given.1))
-    (λ c. one_reason c.enum_told-in-Refused-TooLong-1.given.0.0 ∙ ap phase_numbers (sym c.enum_told-in-Refused-TooLong-1.given.1)))
+    (λ c. ap phase_numbers (sym c.in-Idle.is))
+    (λ c. ap phase_numbers (sym c.in-Opening.is))
+    (λ c. ap phase_numbers (sym c.in-Sending.is))
+    (λ c. ap phase_numbers (sym c.in-Done.is))
+    (λ c. one_reason c.in-Refused-TooLong.field-0 ∙ ap phase_numbers (sym c.in-Refused-TooLong.is)))

@@ -44,14 +44,14 @@ module _ (bytes : List ℕ) where
 
 -- the two numbers that were read
 record Read (c : tie.After-two_at-known) : Type 0 where
-  number : c.before.number_at-number.result ≡ number_at c.before.before.before.before.args.bytes.now 24 1
-  known : c.two_at-known.result ≡ number_at c.before.before.before.before.args.bytes.now 25 2
+  number : c.before.number_at-number.result ≡ number_at c.args.bytes.now 24 1
+  known : c.two_at-known.result ≡ number_at c.args.bytes.now 25 2
 
 read : (c : tie.After-two_at-known) → Read c
 read c =
     record {
       number =
-          (word_read c.before.before.before.before.args.bytes.now 24 1
+          (word_read c.args.bytes.now 24 1
           (λ i. omega (arith, c.before.before.before.shared_slice_known-1.given i)) (omega arith)
           c.before.number_at-number.ensures).0;
       known = omega arith;
@@ -60,24 +60,24 @@ read c =
 -- what the count decides, behind the other tests
 judged : (c : tie.Else-number-gt4) {b : Bool} → let seen = c.before in
     may seen.before.number_at-number.result seen.two_at-known.result ≡ b
-    → is_sender seen.before.before.before.before.args.bytes.now ≡ b
+    → is_sender seen.args.bytes.now ≡ b
 judged c so =
     let seen = c.before in
     let r = read seen in
-    by_count seen.before.before.before.before.args.bytes.now (omega arith) (omega (arith, r))
+    by_count seen.args.bytes.now (omega arith) (omega (arith, r))
     (sym (ap₂ may r.number r.known) ∙ so)
 
 returns : tie.Need-returns-then-bytes-ne-SENDER_BYTES
 unfolding sender_in
 returns c =
-    let bytes = c.before.before.before.args.bytes.now in
+    let bytes = c.args.bytes.now in
     c.no_sender.ensures ∙ rw (other_length bytes (omega arith))
 
 returns-2 : tie.Need-returns-then-number-gt4
 unfolding sender_in
 returns-2 c =
     let seen = c.before.before in
-    let bytes = seen.before.before.before.before.args.bytes.now in
+    let bytes = seen.args.bytes.now in
     c.no_sender-then-number-gt4.ensures ∙ rw (no_phase bytes (omega arith) (omega (arith, read seen)))
 
 returns-3 : tie.Need-returns-then-number-known

@@ -59,13 +59,13 @@ returns-2 c = placed_already _ _ (omega arith)
 
 add-full : tie.Need-overflow_add-full
 add-full c =
-    let p = c.before.before.args in
+    let p = c.args in
     let up = moved_up p.ahead (omega arith) in
     omega (arith, fits p.map p.ahead (omega arith) (omega arith) (omega arith))
 
 returns-3 : tie.Need-returns
 returns-3 c =
-    let up = moved_up c.before.before.args.ahead (omega arith) in
+    let up = moved_up c.args.ahead (omega arith) in
     arrives _ _ (omega arith) (omega arith) (omega arith) _ _ _ (omega arith) (omega arith) (omega arith)
 
 pub arrive_spec : {M : Type 1} → statement M

@@ -1,6 +1,6 @@
 -- `receiver::Receiver::hear` meets its contract: refused it does nothing; or else the step says what is written, to the
 -- answer and, if a block is in turn, to the sound.
-use mathlib.Core.{Path.◌≡◌, Path.refl, Path.sym, Path.ap, Path.◌∙◌, Logic.⊎_elim, Bool.cond, List.List}
+use mathlib.Core.{Path.◌≡◌, Path.refl, Path.sym, Path.ap, Path.◌∙◌, Bool.cond, List.List}
 use Prim.Native.Nat.{ℕ}
 use native.Mathlib.Omega.{arith}
 use borrow.Author.Rules.{rules}
@@ -17,29 +17,30 @@ use Rattle.frames.proofs.FramesWritten.{short, length_short}
 use Rattle.receiver.specs.Receiver.{content_faults, receive_faults}
 use Rattle.receiver.proofs.Receivers.{none_broken, refused_so_lem, received_so}
 use Rattle.receiver.proofs.Receiver.hear.Statement.{statement}
+use Rattle.receiver.proofs.Receiver.hear.Lts.{then-step, else-step}
 use Rattle.receiver.proofs.Receiver.hear.Tie as tie
 
 -- the message is what was told, with the bytes from its byte 8 on
 module _ (c : tie.After-read-told) where
   abbrev message : List ℕ
-  message = c.before.before.before.before.args.frame.now
+  message = c.args.frame.now
 
   fits : c.read-told.result ≡ told (heard_as (drop 8 message) c.read-told.result)
   fits = told_again message c.read-told.ensures
 
 -- no rule is broken
 right : (c : tie.Else-refusal-ne-ACCEPTED) (run : List ℕ) → let t = c.before.before.read-told.result in
-    let p = c.before.before.before.before.before.before.args in t ≡ told (heard_as run t)
+    let p = c.args in t ≡ told (heard_as run t)
     → AllRight (receive_faults p.self (length p.sound.now) (length p.answer.now) (heard_as run t))
 right c run e =
-    let p = c.before.before.before.before.before.before.args in
+    let p = c.args in
     none_broken p.self (length p.sound.now) (length p.answer.now)
     (heard_as run c.before.before.read-told.result) (sym (c.before.fault-refusal.ensures p.self run e) ∙ c.if-refusal-ne-ACCEPTED.false)
 
 returns : tie.Need-returns-then-refusal-ne-ACCEPTED
 returns c =
     let r = c.before.before in
-    let p = r.before.before.before.before.args in
+    let p = r.args in
     refused_so_lem trivium p.self p.sound.now p.answer.now p.frame.now _
     (told_back (message r) r.read-told.ensures) _ c.if-refusal-ne-ACCEPTED.true
     (c.before.fault-refusal.ensures p.self (drop 8 (message r)) (fits r))
@@ -47,10 +48,10 @@ returns c =
 on-frame-requires : tie.Need-on_frame-step-requires
 on-frame-requires c κs =
     let r = c.before.before in (
-      r.before.before.before.before.args.self,
+      r.args.self,
       (
         (right c (drop 8 (message r)) (fits r)).0,
-        λ run e. (right_both (content_faults _ _ (heard_as run r.read-told.result)) _ (right c run e).1.1).0,
+        λ run e. (right_both (content_faults r.args.self (length r.args.sound.now) (heard_as run r.read-told.result)) _ (right c run e).1.1).0,
       ),
     )
 
@@ -59,24 +60,30 @@ add-length c = omega (arith, c.before.before.before.before.before.before.before.
 
 -- what the sound holds afterwards
 after : (c : tie.Joined-step) → let s = c.before.before.before.before.before.before in
-    let p = s.before.before.before.before.before.before.before.args in
+    let p = s.args in
     let r = p.self in
     c.if-step.sound ≡ cond s.on_frame-step.result.in_turn
     (put p.sound.now (place r.count)
     (covered trivium r.key r.pair r.session r.count (drop 8 p.frame.now))) p.sound.now
 after c =
-    ⊎_elim (λ w. rw w.0.taken (w.5 ∙ w.2.ensures)) (λ w. rw w.0.left w.1) c.if-step.branch
+    elim c.if-step.branch [
+      then-step w ↦ rw w.if-step.true (w.sound-is ∙ w.take.ensures)
+      | else-step w ↦ rw w.if-step.false w.sound-is
+    ]
 
 same_length : tie.Need-shape_of-sound
 same_length c =
-    ⊎_elim (λ w. ap length (w.5 ∙ w.2.ensures) ∙ length_put _ _ _) (λ w. ap length w.1) c.before.if-step.branch
+    elim c.if-step.branch [
+      then-step w ↦ ap length (w.sound-is ∙ w.take.ensures) ∙ length_put _ _ _
+      | else-step w ↦ ap length w.sound-is
+    ]
 
 returns-2 : tie.Need-returns
 returns-2 c =
     let written = c.before.before.before.before in
     let s = written.before.before.before in
     let r = s.before.before.before in
-    let p = r.before.before.before.before.args in
+    let p = r.args in
     let run : List ℕ = drop 8 (message r) in
     let t = r.read-told.result in
     let all = right s.before run (fits r) in

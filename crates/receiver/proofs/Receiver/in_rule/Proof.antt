@@ -3,7 +3,7 @@ use Rattle.receiver.proofs.Receiver.in_rule.Statement.{statement}
 use Rattle.receiver.proofs.Receiver.in_rule.Tie as tie
 
 returns : tie.Need-returns
-returns c = c.in_rule.ensures c.before.args.self
+returns c = c.in_rule.ensures c.args.self
 
 pub in_rule_spec : {M : Type 1} → statement M
 in_rule_spec = tie.close (tie.spec (λ c κs. tt) returns)

@@ -19,7 +19,7 @@ rest m = take_all (length m) (drop 8 m) (simp length-drop (omega arith))
 in_place : (sound : List ℕ) (r : Receiver) {at : ℕ} {run own after : List ℕ}
     → after ≡ put sound at (covered trivium r.key r.pair r.session r.count run) → at ≡ place r.count
     → run ≡ own
-    → after ≡ put sound (place r.count) (covered trivium r.key r.pair-1 r.session r.count own)
+    → after ≡ put sound (place r.count) (covered trivium r.key r.pair r.session r.count own)
 in_place sound r e here same = cc
 
 same_length : tie.Need-shape_of-sound
@@ -28,7 +28,7 @@ same_length c = ap length c.before.before.cover.ensures ∙ length_put _ _ _
 returns : tie.Need-returns
 returns c =
     let call = c.before.before in
-    let p = c.before.before.before.before.before.before.before.before.before.before.before.args in
+    let p = c.args in
     in_place p.sound.now p.self call.cover.ensures (omega arith)
     (call.before.before.before.before.slice-run.ensures ∙ rest p.frame.now)
 

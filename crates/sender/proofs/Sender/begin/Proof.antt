@@ -1,18 +1,18 @@
 -- `sender::Sender::begin` meets its contract: its tests come in the definition's order.
 use mathlib.Core.{Path.◌≡◌, Path.sym, Path.◌∙◌, Bool.true}
 use native.Mathlib.Omega.{arith}
-use borrow.Author.{Rules.rules, Tests.not-true, Tests.not-false}
+use borrow.Author.Rules.{rules}
 use Rattle.refusals.proofs.Settled.{done_if, left_at}
 use Rattle.sender.specs.{Rules.sender_in_rule, Sender.beginning}
 use Rattle.sender.proofs.Sender.begin.Statement.{statement}
 use Rattle.sender.proofs.Sender.begin.Tie as tie
 
-within : (c : tie.Else-not-in_rule) → sender_in_rule c.before.before.before.args.self ≡ true
-within c = sym c.before.stage-stage.ensures.0 ∙ not-false _ c.if-not-in_rule.false
+within : (c : tie.Else-not-in_rule) → sender_in_rule c.args.self ≡ true
+within c = sym c.stage-stage.ensures.0 ∙ c.if-not-in_rule.false
 
 returns : tie.Need-returns-then-not-in_rule
 unfolding beginning
-returns c = left_at _ _ _ 0 tt (sym c.before.stage-stage.ensures.0 ∙ not-true _ c.if-not-in_rule.true)
+returns c = left_at _ _ _ 0 tt (sym c.stage-stage.ensures.0 ∙ c.if-not-in_rule.true)
 
 returns-2 : tie.Need-returns-then-n-gt-MOST_BYTES
 unfolding beginning

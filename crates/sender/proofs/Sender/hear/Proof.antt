@@ -12,7 +12,7 @@ returns : tie.Need-returns-then-refusal-ne-ACCEPTED
 unfolding hearing
 returns c =
     let reading = c.before.before in
-    let frame : List ℕ = reading.before.before.args.frame.now in
+    let frame : List ℕ = reading.args.frame.now in
     rw (told_back frame reading.read-told.ensures)
     (settled_left _ _ _ _ c.if-refusal-ne-ACCEPTED.true (c.before.hear_fault-refusal.ensures (drop 8 frame)))
 
@@ -22,7 +22,7 @@ returns-2 c =
     let call = c.before.before in
     let fault = call.before.before in
     let reading = fault.before in
-    let frame : List ℕ = reading.before.before.args.frame.now in
+    let frame : List ℕ = reading.args.frame.now in
     rw (told_back frame reading.read-told.ensures)
     (ap agreed (call.informed-phase.ensures (drop 8 frame))
     ∙ settled_done _ _ _ (sym call.before.if-refusal-ne-ACCEPTED.false ∙ fault.hear_fault-refusal.ensures (drop 8 frame)))

@@ -3,12 +3,9 @@ use mathlib.Core.{Path.◌≡◌, Path.refl, Path.sym, Path.ap, List.List, List.
 use Prim.Native.Nat.{ℕ}
 use native.Mathlib.Omega.{arith}
 use borrow.Author.{Rules.rules, Tests.lt-ltb, Tests.le-ltb}
-use denote.Enum.Declared.{tag_of}
-use types.Run.{OneOf, miss}
 use Rattle.blocks.specs.Blocks.{blocks}
 use Rattle.frames.specs.{Told.heard_as, declared.Told.Told}
 use Rattle.frames.specs.declared.Told.TheVariants as the_told
-use Rattle.frames.specs.contracts.Told.{the_type}
 use Rattle.sender.specs.{Sender.news_count, Sender.informed, declared.Sender.Sender}
 use Rattle.sender.proofs.Sender.informed.Statement.{statement}
 use Rattle.sender.proofs.Sender.informed.Tie as tie
@@ -19,43 +16,41 @@ so s run e = ap (λ (t : Told). informed s (heard_as run t)) (sym e)
 
 returns : tie.Need-returns-then-count-new_count
 returns c run =
-    let t = c.before.before in
-    let s = t.before.before.before.args.self in
-    let news = t.before.before.stage-stage.ensures.2 in
-    rw (lt-ltb t.what-1.given.0.1.0 (news_count s.phase) (omega arith)) at (so s run t.what-1.given.1)
+    let s = c.args.self in
+    let news = c.stage-stage.ensures.2 in
+    rw (lt-ltb c.in-Holds.held (news_count s.phase) (omega arith)) at (so s run c.in-Holds.is)
 
 returns-2 : tie.Need-returns-then-count-block_count
 returns-2 c run =
-    let t = c.before.before.before.before in
-    let s = t.before.before.before.args.self in
-    let held = t.what-1.given.0.1.0 in
-    let news = t.before.before.stage-stage.ensures.2 in
+    let s = c.args.self in
+    let held = c.in-Holds.held in
+    let news = c.stage-stage.ensures.2 in
     rw (le-ltb held (news_count s.phase) (omega arith), lt-ltb held (blocks s.length) (omega arith))
-    at (so s run t.what-1.given.1)
+    at (so s run c.in-Holds.is)
 
 returns-3 : tie.Need-returns-else-count-block_count
 returns-3 c run =
-    let t = c.before.before.before.before in
-    let s = t.before.before.before.args.self in
-    let held = t.what-1.given.0.1.0 in
-    let news = t.before.before.stage-stage.ensures.2 in
+    let s = c.args.self in
+    let held = c.in-Holds.held in
+    let news = c.stage-stage.ensures.2 in
     rw (le-ltb held (news_count s.phase) (omega arith), le-ltb held (blocks s.length) (omega arith))
-    at (so s run t.what-1.given.1)
+    at (so s run c.in-Holds.is)
 
 returns-4 : tie.Need-returns-in-TooLong
-returns-4 c run = so c.before.before.before.args.self run c.enum_told-1.given.1
+returns-4 c run = so c.args.self run c.in-TooLong.is
 
 -- what tells neither of Holds nor of Too long is no news
-other : (s : Sender) (run : List ℕ) (t : Told) → OneOf (0 ∷ 1 ∷ 2 ∷ []) (tag_of the_type t)
-    → s ≡ informed s (heard_as run t)
-other s run the_told.Nothing k = refl
-other s run (the_told.Opening session sound) k = refl
-other s run (the_told.Block session number n) k = refl
-other s run (the_told.Holds session held) k = absurd (miss (0 ∷ 1 ∷ 2 ∷ []) 3 tt k)
-other s run (the_told.TooLong session) k = absurd (miss (0 ∷ 1 ∷ 2 ∷ []) 4 tt k)
+other : (s : Sender) (run : List ℕ) (t : Told) → ((session held : ℕ) → t ≡ the_told.Holds session held → ⊥)
+    → ((session : ℕ) → t ≡ the_told.TooLong session → ⊥) → s ≡ informed s (heard_as run t)
+other s run the_told.Nothing h l = refl
+other s run (the_told.Opening session sound) h l = refl
+other s run (the_told.Block session number n) h l = refl
+other s run (the_told.Holds session held) h l = absurd (h session held refl)
+other s run (the_told.TooLong session) h l = absurd (l session refl)
 
 returns-5 : tie.Need-returns-in_default
-returns-5 c run = let p = c.before.before.args in other p.self run p.what c.in-Holds.keys3
+returns-5 c run =
+    let p = c.args in other p.self run p.what c.in_default.not-Holds c.in_default.not-TooLong
 
 pub informed_spec : {M : Type 1} → statement M
 informed_spec =

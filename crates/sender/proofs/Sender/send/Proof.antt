@@ -24,12 +24,12 @@ reached : (b : Bool) (n : ℕ) {x y : ℕ} → (b ≡ false → x ≡ y) → con
 reached true n e = refl
 reached false n e = e refl
 
-fault_is : (c : tie.After-transfer_fault-refusal) → let p = c.before.before.before.before.before.before.args in
+fault_is : (c : tie.After-transfer_fault-refusal) → let p = c.args in
     let due = due_in trivium p.self p.sound.now p.self.phase in
     c.transfer_fault-refusal.result ≡ first (send_faults p.self p.sound.now (length due) (length p.frame.now))
 unfolding first told
 fault_is c =
-    let p = c.before.before.before.before.before.before.args in
+    let p = c.args in
     let stage = c.before.before.before.stage-stage.ensures in
     let n : ℕ = length p.sound.now in
     let room : ℕ = length p.frame.now in
@@ -41,7 +41,7 @@ fault_is c =
     ∙ (λ i. cond (not (stage.0 i)) out_of_rule (cond (not (stage.1 i)) no_transfer (rest i)))
 
 -- no rule is broken
-right : (c : tie.Else-refusal-ne-ACCEPTED) → let p = c.before.before.before.before.before.before.before.args in
+right : (c : tie.Else-refusal-ne-ACCEPTED) → let p = c.args in
     let due = due_in trivium p.self p.sound.now p.self.phase in
     AllRight (send_faults p.self p.sound.now (length due) (length p.frame.now))
 right c = none_wrong _ tt (sym (fault_is c.before) ∙ c.if-refusal-ne-ACCEPTED.false)
@@ -54,7 +54,7 @@ cast-known : tie.Need-overflow_cast-known
 cast-known c =
     let e = c.before in
     let stage = e.before.before.before.before in
-    let few = news_below stage.before.before.before.args.self (right e).0 in
+    let few = news_below stage.args.self (right e).0 in
     omega (arith, stage.stage-stage.ensures.2)
 
 returns-2 : tie.Need-returns-then-new_count-eq0
@@ -63,7 +63,7 @@ returns-2 c =
     let call = c.before.before in
     let none = call.before.before.before in
     let stage = none.before.before.before.before.before in
-    let p = stage.before.before.before.args in
+    let p = stage.args in
     let s = p.self in
     let all = right none.before in
     let phase = opening_if s.phase all.1.0 (sym stage.stage-stage.ensures.2 ∙ none.if-new_count-eq0.true) in
@@ -79,7 +79,7 @@ returns-3 c =
     let call = c.before.before in
     let other = call.before.before.before.before.before.before in
     let stage = other.before.before.before.before.before in
-    let p = stage.before.before.before.args in
+    let p = stage.args in
     let s = p.self in
     let all = right other.before in
     let phase = sending_if s.phase all.1.0 (omega (arith, stage.stage-stage.ensures.2)) in

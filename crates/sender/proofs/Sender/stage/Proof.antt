@@ -4,16 +4,14 @@ use mathlib.Core.Bool.{Bool, true, false, ◌&&◌}
 use mathlib.Core.List.{List, [], ◌∷◌}
 use Prim.Native.Nat.{ℕ, ◌+◌}
 use borrow.Author.Rules.{rules}
-use denote.Enum.Declared.{tag_of}
 use lib.{Dec.leb, Dec.ltb, ListN.length}
-use types.Run.{OneOf, miss}
 use Rattle.trivium.specs.Keystream.{trivium}
 use Rattle.blocks.specs.Blocks.{longest, size}
 use Rattle.sender.specs.{Rules.phase_in_rule, Rules.sender_in_rule, declared.Phase.Phase, declared.Sender.Sender}
 use Rattle.sender.specs.{declared.Stage.Stage}
 use Rattle.sender.specs.Sender.{is_under_way, news_count, due_in}
 use Rattle.sender.specs.declared.Phase.TheVariants.{Idle, Opening, Sending, Done, Refused}
-use Rattle.sender.proofs.{Phase.the_type, Senders.length_opening, Senders.length_block_frame}
+use Rattle.sender.proofs.{Senders.length_opening, Senders.length_block_frame}
 use Rattle.sender.proofs.{Sender.stage.Statement.statement}
 use Rattle.sender.proofs.Sender.stage.Tie as tie
 
@@ -29,37 +27,36 @@ so_far : (b : Bool) → b ≡ (b && true)
 so_far true = refl
 so_far false = refl
 
-ended : (s : Sender) (r : Stage) (p : Phase) → OneOf (3 ∷ 4 ∷ []) (tag_of the_type p)
-    → let is_in_rule = leb s.length longest && leb 1 s.session in
+ended : (s : Sender) (r : Stage) (p : Phase) → (p ≡ Idle → ⊥) → (p ≡ Opening → ⊥)
+    → ((known : ℕ) → p ≡ Sending known → ⊥) → let is_in_rule = leb s.length longest && leb 1 s.session in
     r ≡ record { in_rule = is_in_rule; under_way = false; new_count = 0; due = 0 } → Says s r p
 unfolding Says phase_in_rule due_in
-ended s r Idle h e = absurd (miss (3 ∷ 4 ∷ []) 0 tt h)
-ended s r Opening h e = absurd (miss (3 ∷ 4 ∷ []) 1 tt h)
-ended s r (Sending known) h e = absurd (miss (3 ∷ 4 ∷ []) 2 tt h)
-ended s r Done h e = rw e (refl, refl, refl, λ sound same. refl)
-ended s r (Refused why) h e = rw e (refl, refl, refl, λ sound same. refl)
+ended s r Idle i o k e = absurd (i refl)
+ended s r Opening i o k e = absurd (o refl)
+ended s r (Sending known) i o k e = absurd (k known refl)
+ended s r Done i o k e = rw e (refl, refl, refl, λ sound same. refl)
+ended s r (Refused why) i o k e = rw e (refl, refl, refl, λ sound same. refl)
 
 returns : tie.Need-returns-in-Idle
 unfolding Says sender_in_rule phase_in_rule due_in
 returns c =
-    subst (Says c.before.before.args.self _) (sym c.enum_told-1.given.1)
+    subst (Says c.args.self _) (sym c.in-Idle.is)
     (so_far _, refl, refl, λ sound same. refl)
 
 returns-2 : tie.Need-returns-in-Opening
 unfolding Says sender_in_rule phase_in_rule due_in
 returns-2 c =
-    let s = c.before.before.args.self in
-    subst (Says s _) (sym c.enum_told-in-Opening-1.given.1)
+    let s = c.args.self in
+    subst (Says s _) (sym c.in-Opening.is)
     (refl, refl, refl, λ sound same. sym (length_opening s.session s.length))
 
 returns-3 : tie.Need-returns-in-Sending
 unfolding Says sender_in_rule phase_in_rule due_in
 returns-3 c =
-    let told = c.before.before.before in
-    let s = told.before.before.args.self in
-    let k = told.phase-1.given.0.0 in
-    subst (Says s _) (sym told.phase-1.given.1) (
-      ap (λ (n : ℕ). leb s.length longest && (leb 1 s.session && ltb k n)) c.before.block_count.ensures,
+    let s = c.args.self in
+    let k = c.in-Sending.known in
+    subst (Says s _) (sym c.in-Sending.is) (
+      ap (λ (n : ℕ). leb s.length longest && (leb 1 s.session && ltb k n)) c.block_count.ensures,
       refl,
       refl,
       λ sound same.
@@ -69,7 +66,10 @@ returns-3 c =
 
 returns-4 : tie.Need-returns-in_default
 unfolding Says sender_in_rule
-returns-4 c = ended c.before.args.self _ c.before.args.self.phase c.in-Idle.keys4 refl
+returns-4 c =
+    let s = c.args.self in
+    let d = c.in_default in
+    ended s _ s.phase d.not-Idle d.not-Opening d.not-Sending refl
 
 pub stage_spec : {M : Type 1} → statement M
 stage_spec =
