@@ -14,7 +14,7 @@ use Rattle.bodies.proofs.begun.Tie as tie
 
 -- the keystream under a cipher and a row of its ring
 abbrev under : tie.Start → Kind → ℕ → Keystream
-under s kind row = let p = s.args in stream_for kind (rings p.t2 p.t3 p.t4) row p.value.now
+under s kind row = let p = s.args in stream_for kind (rings p.ring p.second p.third) row p.value.now
 
 -- the row is the one named, and the cipher the one told
 named : (s : tie.Start) (kind : Kind) {row : ℕ} {made : Keystream} → made ≡ under s kind row → row ≡ s.args.number
@@ -30,27 +30,27 @@ returns : tie.Need-returns-in-Trivium
 returns c =
     let told = c.before.before.before in
     let s = told.before.before in
-    named s Trivium c.trivium_begun.ensures (omega arith) told.enum_told-1.given.1
+    named s Trivium c.trivium_begun.ensures (omega arith) told.in-Trivium.is
 
 returns-2 : tie.Need-returns-in-Enocoro
 returns-2 c =
     let told = c.before.before.before in
     let s = told.before.before in
-    named s Enocoro c.enocoro_begun.ensures (omega arith) told.enum_told-in-Enocoro-1.given.1
+    named s Enocoro c.enocoro_begun.ensures (omega arith) told.in-Enocoro.is
 
 returns-3 : tie.Need-returns-in-Triad
 returns-3 c =
     let told = c.before.before.before in
     let s = told.before.before in
-    named s Triad c.triad_begun.ensures (omega arith) told.enum_told-in-Triad-1.given.1
+    named s Triad c.triad_begun.ensures (omega arith) told.in-Triad.is
 
 pub begun_spec : {M : Type 1} → statement M
 begun_spec =
     tie.close
     (tie.spec (λ c. search rules) (λ c. omega arith) (λ c. omega arith)
-    (λ c κs. long c.before.before.before.before.before c.before.before.enum_told-1.given.1)
+    (λ c κs. long c.before.before.before.before c.before.before.in-Trivium.is)
     (λ c. search rules) (λ c. omega arith) (λ c. omega arith)
-    (λ c κs. long c.before.before.before.before.before c.before.before.enum_told-in-Enocoro-1.given.1)
+    (λ c κs. long c.before.before.before.before c.before.before.in-Enocoro.is)
     (λ c. search rules) (λ c. omega arith) (λ c. omega arith)
-    (λ c κs. long c.before.before.before.before.before c.before.before.enum_told-in-Triad-1.given.1)
+    (λ c κs. long c.before.before.before.before c.before.before.in-Triad.is)
     returns returns-2 returns-3)

@@ -9,4 +9,4 @@ unfolding ahead
 returns c = c.enocoro_made.ensures
 
 pub enocoro_begun_spec : {M : Type 1} → statement M
-enocoro_begun_spec = tie.close (tie.spec (λ c κs. (c.enocoro_made-arg-1.given.0, omega arith)) returns)
+enocoro_begun_spec = tie.close (tie.spec (λ c κs. (c.enocoro_made-arg-1.given, omega arith)) returns)

@@ -14,7 +14,7 @@ returns c =
     let made = c.before in
     let p = made.before.before.before.args in
     ap (λ (m : Made). ahead m.registers) made.make-made.ensures
-    ∙ made_stream p.key.now p.value.now made.before.make-arg-1.given.0 (omega arith)
+    ∙ made_stream p.key.now p.value.now made.before.make-arg-1.given (omega arith)
 
 pub trivium_begun_spec : {M : Type 1} → statement M
 trivium_begun_spec = tie.close (tie.spec (λ c κs. search rules) returns)

@@ -68,7 +68,7 @@ module _ (s : tie.Start) where
   -- a tag by its row and what it is over
   abbrev under : ℕ → List ℕ → List ℕ → List ℕ → ℕ
   under row value beside body =
-      let key = key_named s.args.t3 row in
+      let key = key_named s.args.ring row in
       triad.tag key value beside (enciphered (triad.stream key value) body)
 
   -- the row is the one told
@@ -85,7 +85,7 @@ module _ (s : tie.Start) where
   due_by : (due : ℕ) → due < 2 ^ 64
       → due ≡ by (key_number file) (value_place file) (body_place triad file) (2 * sample_count triad file)
       (loop_place triad file) (1 + 8 * loop_count triad file)
-      → due ≡ tag_due triad s.args.t3 file
+      → due ≡ tag_due triad s.args.ring file
   unfolding tag_due plain_of
   due_by due small e = e ∙ sym (mod-eq_of_lt (subst (λ (n : ℕ). n < 2 ^ 64) e small))
 
@@ -105,14 +105,14 @@ returns c =
     ap length v.slice-value.ensures
     ∙ length_slice (file s) (told s).value_at 12 (omega (arith, t.far)) in
     let lent = named s _ v.slice-value.result.now (f.slice-front.result.now ++ l.slice-loops.result.now)
-    b.slice-body.result.now (d.tag_due.ensures ∙ sym (done_if _ _ _ (long, tt))) (omega arith) in
+    b.slice-body.result.now (d.tag_due-due.ensures ∙ sym (done_if _ _ _ (long, tt))) (omega arith) in
     let at : ℕ = (told s).loops_at - 1 + (1 + 8 * (told s).loops) + 1 in
     let place : at ≡ tag_place triad (file s) + 1 = omega (arith, t.loop, t.many, (known s).tag) in
     let there = (word_read (file s) at 8
     (λ i. omega (arith, f.before.before.before.before.before.shared_slice_known-1.given i)) (omega arith)
     (c.number_at-there.ensures ∙ ap word (number_lent (file s) at 8))).0
     ∙ ap (λ (n : ℕ). number_at (file s) n 8) place in
-    let due = due_by s d.tag_due.result (omega arith)
+    let due = due_by s d.tag_due-due.result (omega arith)
     (lent
     ∙ (λ i.
     under s (told s).key (v.slice-value.ensures i) (f.slice-front.ensures i ++ l.slice-loops.ensures i) (b.slice-body.ensures i))

@@ -31,15 +31,15 @@ as_told : (s : tie.Start) (kind : Kind) {b : Bool} → s.args.kind ≡ kind → 
 as_told s kind {b} told e = subst (λ (k : Kind). b ≡ differ s k) (sym told) e
 
 returns : tie.Need-returns-in-Trivium
-returns c = let s = c.before.before in as_told s Trivium c.in-Trivium.given.1 (trivium_none s)
+returns c = let s = c.before.before in as_told s Trivium c.in-Trivium.is (trivium_none s)
 
 returns-2 : tie.Need-returns-in-Enocoro
-returns-2 c = let s = c.before.before in as_told s Enocoro c.in-Enocoro.given.1 (enocoro_none s)
+returns-2 c = let s = c.before.before in as_told s Enocoro c.in-Enocoro.is (enocoro_none s)
 
 returns-3 : tie.Need-returns-in-Triad
 returns-3 c =
     let t = c.before in
-    as_told t.before.before Triad t.in-Triad.given.1 c.tag_differs.ensures
+    as_told t.before.before Triad t.in-Triad.is c.tag_differs.ensures
 
 tag-differs-requires : tie.Need-tag_differs-requires
 tag-differs-requires c κs =
@@ -47,7 +47,7 @@ tag-differs-requires c κs =
     let f = s.args.file.now in
     subst
     (λ (k : Kind). (s.args.told ≡ accepted_opening (cipher_of k) f) × (accepted ≡ first (file_faults (cipher_of k) f)))
-    c.in-Triad.given.1 s.requires
+    c.in-Triad.is s.requires
 
 pub tag_wrong_spec : {M : Type 1} → statement M
 tag_wrong_spec =

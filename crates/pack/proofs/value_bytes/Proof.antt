@@ -11,13 +11,13 @@ abbrev size : Kind → ℕ
 size kind = (cipher_of kind).value_bytes
 
 returns : tie.Need-returns-in-Trivium
-returns c = omega (arith, ap size c.in-Trivium.given.1)
+returns c = omega (arith, ap size c.in-Trivium.is)
 
 returns-2 : tie.Need-returns-in-Enocoro
-returns-2 c = omega (arith, ap size c.in-Enocoro.given.1)
+returns-2 c = omega (arith, ap size c.in-Enocoro.is)
 
 returns-3 : tie.Need-returns-in-Triad
-returns-3 c = omega (arith, ap size c.in-Triad.given.1)
+returns-3 c = omega (arith, ap size c.in-Triad.is)
 
 pub value_bytes_spec : {M : Type 1} → statement M
 value_bytes_spec = tie.close (tie.spec (λ c. search rules) (λ c. search rules)

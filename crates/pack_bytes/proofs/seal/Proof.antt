@@ -22,7 +22,7 @@ use Rattle.pack_bytes.proofs.seal.Tie as tie
 own : (s : tie.After-seal-sealed)
     → let t = s.before.before.before.before.before.before.before.before.before.before.before in
     let p = t.before.before.before.before.before.before.before.args in
-    outcome s.seal-sealed.result s.seal-sealed.new.ring.1.1.1.1.1.1.1.1.0
+    outcome s.seal-sealed.result s.seal-sealed.new.output
     ≡ sealing_file (picked p.cipher) (rings_of p.keys.now)
     (parts p.name.now p.key p.value.now p.samples.now p.loops.now)
     p.output.now

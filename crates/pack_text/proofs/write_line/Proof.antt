@@ -11,24 +11,20 @@ use Rattle.pack_text.proofs.write_line.Tie as tie
 
 add-result : tie.Need-overflow_add-result
 add-result c =
-    let number = c.before.before.before.before.before.before.before in
-    let p = number.before.before.before.before.before.before.before.before.args in
-    omega (arith, ap (λ (o : Outcome ℕ ℕ). o.answer) number.write_decimal-line_end.ensures, length_decimal p.value)
+    omega (arith, ap (λ (o : Outcome ℕ ℕ). o.answer) c.write_decimal-line_end.ensures, length_decimal c.args.value)
 
 returns : tie.Need-returns
 returns c =
-    let number = c.before.before.before.before.before.before.before in
-    let word = number.before.before.before.before in
-    let p = word.before.before.before.before.args in
-    let ended = number.write_decimal-line_end.ensures in
+    let p = c.args in
+    let ended = c.write_decimal-line_end.ensures in
     line_written p.d.now p.at p.word.now (decimal p.value) (omega (arith, length_decimal p.value))
-    word.copy.ensures (omega arith)
+    c.copy.ensures (omega arith)
     (ap (λ (o : Outcome ℕ ℕ). o.buffer) ended)
     (ap (λ (o : Outcome ℕ ℕ). o.answer) ended)
-    c.before.before.copy-2.ensures
+    c.copy-2.ensures
 
 pub write_line_spec : {M : Type 1} → statement M
 write_line_spec =
     tie.close
-    (tie.spec (λ c κs. search rules) (λ c. search rules) (λ c κs. search rules) (λ c. search rules)
-    (λ c κs. search rules) add-result (λ c. search rules) returns)
+    (tie.spec (λ c κs. search rules) (λ c. search rules) (λ c κs. search rules) (λ c κs. search rules) add-result
+    (λ c. search rules) returns)

@@ -9,16 +9,13 @@ use Rattle.pack_text.proofs.write_name.Tie as tie
 
 returns : tie.Need-returns
 returns c =
-    let third = c.before.before in
-    let second = third.before.before.before.before.before in
-    let first = second.before.before.before.before in
-    let p = first.before.before.before.before.before.args in
-    line_written p.d.now 0 name_word p.name.now (omega arith) first.copy.ensures (omega arith)
-    second.copy-2.ensures (omega arith) third.copy-3.ensures
+    let p = c.args in
+    line_written p.d.now 0 name_word p.name.now (omega arith) c.copy.ensures (omega arith)
+    c.copy-2.ensures (omega arith) c.copy-3.ensures
     ∙ text_first p.d.now (line name_word p.name.now)
 
 pub write_name_spec : {M : Type 1} → statement M
 write_name_spec =
     tie.close
-    (tie.spec (λ c. search rules) (λ c. search rules) (λ c κs. search rules) (λ c κs. search rules)
-    (λ c. search rules) (λ c κs. search rules) (λ c. search rules) (λ c. search rules) returns)
+    (tie.spec (λ c. search rules) (λ c κs. search rules) (λ c κs. search rules) (λ c κs. search rules)
+    (λ c. search rules) (λ c. search rules) returns)

@@ -51,19 +51,19 @@ module _ (c : tie.After-write_name-key_at) where
 
 -- the way back from each line to the first
 abbrev before_key : tie.After-write_line-samples_at → tie.After-write_name-key_at
-before_key c = c.before.before.before.before.before
+before_key c = c.before.before.before.before.before.before
 
 abbrev before_samples : tie.After-write_line-loops_at → tie.After-write_line-samples_at
-before_samples c = c.before.before.before.before.before
+before_samples c = c.before.before.before.before.before.before
 
 after_key : (c : tie.After-write_line-samples_at)
-    → outcome c.write_line-samples_at.result c.write_line-samples_at.new.0 ≡ writing (keyed (before_key c)) (d (before_key c))
+    → outcome c.write_line-samples_at.result c.write_line-samples_at.new.d ≡ writing (keyed (before_key c)) (d (before_key c))
 after_key c =
     let n = before_key c in
     text_on (d n) (named n) _ (omega (arith, keyed_short n, given n)) n.write_name-key_at.ensures c.write_line-samples_at.ensures
 
 after_samples : (c : tie.After-write_line-loops_at) → let n = before_key (before_samples c) in
-    outcome c.write_line-loops_at.result c.write_line-loops_at.new.0 ≡ writing (counted n) (d n)
+    outcome c.write_line-loops_at.result c.write_line-loops_at.new.d ≡ writing (counted n) (d n)
 after_samples c =
     let n = before_key (before_samples c) in
     text_on (d n) (keyed n) _ (omega (arith, counted_short n, given n)) (after_key (before_samples c))
@@ -71,25 +71,25 @@ after_samples c =
 
 write-line-requires : tie.Need-write_line-samples_at-requires
 write-line-requires c κs =
-    let n = c.before.before.before.before in
+    let n = c.before.before.before.before.before in
     omega (arith, text_ends (d n) (named n) n.write_name-key_at.ensures, named_short n, given n)
 
-write-line-requires-2 : tie.Need-write_line-samples_at-requires
+write-line-requires-2 : tie.Need-write_line-loops_at-requires
 write-line-requires-2 c κs =
-    let k = c.before.before.before.before in
+    let k = c.before.before.before.before.before in
     let n = before_key k in
     omega (arith, text_ends (d n) (keyed n) (after_key k), keyed_short n, given n)
 
 write-line-requires-3 : tie.Need-write_line-requires
 write-line-requires-3 c κs =
-    let s = c.before.before.before.before in
+    let s = c.before.before.before.before.before in
     let n = before_key (before_samples s) in
     omega (arith, text_ends (d n) (counted n) (after_samples s), counted_short n, given n)
 
 returns : tie.Need-returns
 unfolding pack_lines
 returns c =
-    let s = c.before.before.before.before.before.before.before in
+    let s = c.before.before.before.before.before.before.before.before in
     let n = before_key (before_samples s) in
     text_on (d n) (counted n) (line loops_word (decimal (start n).args.loops))
     (omega (arith, length_on (counted n) loops_word (start n).args.loops, counted_short n, given n)) (after_samples s)
@@ -98,5 +98,5 @@ returns c =
 pub write_pack_spec : {M : Type 1} → statement M
 write_pack_spec =
     tie.close
-    (tie.spec (λ c κs. search rules) (λ c. search rules) write-line-requires (λ c. search rules)
-    write-line-requires-2 (λ c. search rules) write-line-requires-3 (λ c. search rules) returns)
+    (tie.spec (λ c κs. search rules) write-line-requires write-line-requires-2 write-line-requires-3
+    (λ c. search rules) returns)

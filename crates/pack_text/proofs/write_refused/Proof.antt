@@ -12,30 +12,28 @@ use Rattle.pack_text.proofs.Lines.{refused_lacking}
 use Rattle.pack_text.proofs.write_refused.Statement.{statement}
 use Rattle.pack_text.proofs.write_refused.Tie as tie
 
-returns : tie.Need-write_line-requires
+returns : tie.Need-returns-then-lacks-eq0
 returns c =
-    let w = c.before.before in
-    let p = w.before.before.before.before.before.args in
-    w.write_line.ensures ∙ text_first p.d.now (line refused_word (decimal p.number))
+    let p = c.args in
+    c.write_line.ensures ∙ text_first p.d.now (line refused_word (decimal p.number))
     ∙ ap (λ (t : List ℕ). writing t p.d.now) (refused_plain p.lacks p.number (omega arith))
 
 -- as far as the first number
 numbered : (c : tie.After-write_decimal-end)
-    → let p = c.before.before.before.before.before.before.before.before.before.args in
-    outcome c.write_decimal-end.result c.write_decimal-end.new.0
+    → let p = c.args in
+    outcome c.write_decimal-end.result c.write_decimal-end.new.d
     ≡ writing (refused_word ++ decimal p.number) p.d.now
 numbered c =
-    let word = c.before.before.before.before in
-    let p = word.before.before.before.before.before.args in
+    let p = c.args in
     text_on p.d.now refused_word (decimal p.number)
     (omega (arith, length-append refused_word (decimal p.number), length_decimal p.number))
-    (ap (λ (e : List ℕ). outcome 8 e) word.copy.ensures)
+    (ap (λ (e : List ℕ). outcome 8 e) c.copy.ensures)
     (number_so _ _ _ p.number c.write_decimal-end.ensures (omega arith))
 
 write-line-requires-2 : tie.Need-write_line-requires-2
 write-line-requires-2 c κs =
-    let first = c.before.before.before.before in
-    let p = first.before.before.before.before.before.before.before.before.before.args in
+    let first = c.before.before.before.before.before in
+    let p = c.args in
     omega (
       arith,
       text_ends p.d.now (refused_word ++ decimal p.number) (numbered first),
@@ -45,9 +43,8 @@ write-line-requires-2 c κs =
 
 returns-2 : tie.Need-returns
 returns-2 c =
-    let w = c.before.before in
-    let first = w.before.before.before.before.before in
-    let p = first.before.before.before.before.before.before.before.before.before.args in
+    let first = c.before.before.before.before.before.before.before.before in
+    let p = c.args in
     let word : List ℕ = refused_word ++ decimal p.number in
     let lacking : List ℕ = line (32 ∷ []) (decimal p.lacks) in
     text_on p.d.now word lacking
@@ -58,13 +55,12 @@ returns-2 c =
       length_line (32 ∷ []) (decimal p.lacks),
       length_decimal p.number,
       length_decimal p.lacks,
-    )) (numbered first) w.write_line-2.ensures
+    )) (numbered first) c.write_line-2.ensures
     ∙ ap (λ (t : List ℕ). writing t p.d.now)
     (refused_lacking p.lacks p.number (omega arith))
 
 pub write_refused_spec : {M : Type 1} → statement M
 write_refused_spec =
     tie.close
-    (tie.spec (λ c. search rules) (λ c κs. search rules) (λ c. search rules) returns (λ c. search rules)
-    (λ c κs. search rules) (λ c κs. search rules) (λ c. search rules) write-line-requires-2 (λ c. search rules)
-    returns-2)
+    (tie.spec (λ c κs. search rules) (λ c. search rules) returns (λ c κs. search rules) (λ c κs. search rules)
+    write-line-requires-2 (λ c. search rules) returns-2)

@@ -60,15 +60,15 @@ loop-again c =
     (λ t. (
       false,
       omega arith,
-      t.1,
-      bad_more zs l.i l.invariant.0 (omega arith) l.invariant.3 (lowest z small t.0.taken (omega arith)),
+      t.found-is,
+      bad_more zs l.i l.invariant.0 (omega arith) l.invariant.3 (lowest z small t.if-samples-i.true (omega arith)),
     ))
     (λ t. (
       l.invariant.0,
       omega arith,
-      t.1 ∙ l.invariant.2,
-      good_more zs l.i l.invariant.0 (omega arith) l.invariant.3 (other z small t.0.left (omega arith)),
-    )) c.if-samples-i.branch
+      t.found-is ∙ l.invariant.2,
+      good_more zs l.i l.invariant.0 (omega arith) l.invariant.3 (other z small t.if-samples-i.false (omega arith)),
+    )) c.if-samples-i.branch-raw
 
 returns : tie.Need-returns invariant-loop decreases-loop
 returns c =

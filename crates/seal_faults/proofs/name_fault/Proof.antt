@@ -1,7 +1,7 @@
 -- `seal_faults::name_fault` meets its contract: its two tests are the two rules.
 use mathlib.Core.Path.{sym, ◌∙◌}
 use native.Mathlib.Omega.{arith}
-use borrow.Author.{Rules.rules, Tests.not-true, Tests.not-false}
+use borrow.Author.Rules.{rules}
 use Rattle.refusals.proofs.Faults.{all_right, refused_so_lem}
 use Rattle.seal_faults.proofs.name_fault.Statement.{statement}
 use Rattle.seal_faults.proofs.name_fault.Tie as tie
@@ -12,13 +12,13 @@ returns c = refused_so_lem 0 _ (omega arith) (omega arith)
 returns-2 : tie.Need-returns-then-not-name_good
 returns-2 c =
     refused_so_lem 1 _
-    (omega arith, sym c.before.name_good.ensures ∙ not-true c.before.name_good.result c.if-not-name_good.true)
+    (omega arith, sym c.before.name_good.ensures ∙ c.if-not-name_good.true)
     (omega arith)
 
 returns-3 : tie.Need-returns
 returns-3 c =
     all_right _
-    (omega arith, (sym c.before.name_good.ensures ∙ not-false c.before.name_good.result c.if-not-name_good.false, tt))
+    (omega arith, (sym c.before.name_good.ensures ∙ c.if-not-name_good.false, tt))
 
 pub name_fault_spec : {M : Type 1} → statement M
 name_fault_spec = tie.close (tie.spec returns (λ c κs. search rules) returns-2 returns-3)

@@ -3,7 +3,7 @@
 use mathlib.Core.{Path.◌≡◌, Path.refl, Path.sym, Path.◌∙◌, Bool.Bool, Bool.true, Bool.false, Bool.cond}
 use Prim.Native.Nat.{◌<◌, ◌≤◌}
 use native.Mathlib.Omega.{arith}
-use borrow.Author.{Rules.rules, Tests.not-true, Tests.not-false}
+use borrow.Author.Rules.{rules}
 use lib.ListN.{length}
 use Rattle.refusals.specs.Rules.{AllRight}
 use Rattle.refusals.proofs.{Faults.all_right, Faults.none_wrong, Faults.refused_so_lem, Settled.first_here}
@@ -36,7 +36,7 @@ samples_good_lem c = none_found _ (omega (arith, c.before.before.lowest_found-lo
 loops_good_lem : (c : tie.Else-not-loops_in_rule)
     → let p = (after_name c.before.before.before.before.before.before.before).before.before.before.before.before.args in
     loops_good (length p.samples.now) p.loops.now ≡ true
-loops_good_lem c = sym c.before.loops_in_rule.ensures ∙ not-false c.before.loops_in_rule.result c.if-not-loops_in_rule.false
+loops_good_lem c = sym c.before.loops_in_rule.ensures ∙ c.if-not-loops_in_rule.false
 
 returns : tie.Need-returns-then-fault-ne-ACCEPTED
 unfolding seal_faults
@@ -92,7 +92,7 @@ returns-7 c =
 returns-8 : tie.Need-returns-then-not-loops_in_rule
 unfolding seal_faults
 returns-8 c =
-    let bad = sym c.before.loops_in_rule.ensures ∙ not-true c.before.loops_in_rule.result c.if-not-loops_in_rule.true in
+    let bad = sym c.before.loops_in_rule.ensures ∙ c.if-not-loops_in_rule.true in
     let e = c.before.before.before.before in
     let n = named (after_name e.before.before.before) in
     refused_so_lem 8 _ (

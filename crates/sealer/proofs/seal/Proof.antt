@@ -84,7 +84,7 @@ write-front-requires c κs = omega (arith, known c.before)
 write-loops-requires : tie.Need-write_loops-requires
 write-loops-requires c κs =
     let w = c.before.before.before in
-    omega (arith, known (passed (front w)), w.write_samples.auto.output.1.0, (front w).write-front.auto.0)
+    omega (arith, known (passed (front w)), w.write_samples.auto.output, (front w).write_front.auto.output)
 
 write-end-requires : tie.Need-write_end-requires
 write-end-requires c κs =
@@ -99,8 +99,8 @@ write-end-requires c κs =
         arith,
         k,
         l.write_loops.auto.output,
-        w.write_samples.kept.1.1.0,
-        (front w).write-front.kept.0,
+        w.write_samples.auto.output,
+        (front w).write_front.auto.output,
       ),
     )
 
@@ -261,7 +261,7 @@ returns-2 c =
     (name_section p ++ ((suc n ∷ p.key_number ∷ p.value) ++ row (fours 1) (length p.samples ∷ [])))) k.1 in
     let under : ahead b.before.before.begin-begun.result.cipher ≡ stream (cipher s) (ring s) p =
     ap (λ (r : Ready). r.stream) (b.before.before.begin-begun.ensures ∙ sym (done_if _ _ _ (k.3, (k.1, tt)))) in
-    let three = written (cipher s) (ring s) p a.output.now (omega (arith, k)) under ((front b).write-front.ensures
+    let three = written (cipher s) (ring s) p a.output.now (omega (arith, k)) under ((front b).write_front.ensures
     ∙ headed)
     b.write_samples.ensures (omega arith) l.write_loops.ensures in
     ap₂ (λ (n : ℕ) (d : List ℕ). outcome {A = Sealed} (record { refusal = accepted; length = n }) d)

@@ -34,17 +34,17 @@ as_told s kind {d} told e = subst (λ (k : Kind). d ≡ under s k) (sym told) e
 
 returns : tie.Need-returns-in-Trivium
 returns c =
-    let s = c.before.before.before in as_told s Trivium c.in-Trivium.given.1 (trivium_none s)
+    let s = c.before.before.before in as_told s Trivium c.in-Trivium.is (trivium_none s)
 
 returns-2 : tie.Need-returns-in-Enocoro
 returns-2 c =
-    let s = c.before.before.before in as_told s Enocoro c.in-Enocoro.given.1 (enocoro_none s)
+    let s = c.before.before.before in as_told s Enocoro c.in-Enocoro.is (enocoro_none s)
 
 returns-3 : tie.Need-returns-in-Triad
 returns-3 c =
     let w = c.before.before in
     let t = w.before.before in
-    as_told t.before.before.before Triad t.in-Triad.given.1 w.write_tag.ensures
+    as_told t.before.before.before Triad t.in-Triad.is w.write_tag.ensures
 
 write-tag-requires : tie.Need-write_tag-requires
 write-tag-requires c κs =
@@ -54,7 +54,7 @@ write-tag-requires c κs =
     subst
     (λ (k : Kind). (p.number ≤ 3) × (length p.value.now ≡ (cipher_of k).value_bytes) × (p.start ≤ p.stop)
     × (p.stop ≤ p.at) × (p.at + tag_length (cipher_of k) ≤ length p.output.now))
-    t.in-Triad.given.1 s.requires
+    t.in-Triad.is s.requires
 
 pub write_end_spec : {M : Type 1} → statement M
 write_end_spec =

@@ -57,7 +57,7 @@ loop-again c =
     )
 
 same_length : tie.Need-shape_of-output invariant-loop decreases-loop
-same_length c = c.before.loop-i.invariant.1 ∙ c.before.before.before.before.write_number.auto.0
+same_length c = c.before.loop-i.invariant.1 ∙ c.before.before.before.before.write_number.auto.d
 
 returns : tie.Need-returns invariant-loop decreases-loop
 returns c =

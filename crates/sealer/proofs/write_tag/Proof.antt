@@ -22,8 +22,8 @@ back c = start c.before.before.before.before.before.before.before.before.before
 
 -- the tag by a row
 due : (d : tie.After-tag_due-due) → let p = (start d.before.before.before.before).args in
-    let key = key_named p.t1 p.number in
-    d.tag_due.result
+    let key = key_named p.ring p.number in
+    d.tag_due-due.result
     ≡ triad.tag key p.value.now
     (slice p.output.now 0 p.start ++ slice p.output.now p.stop (p.at - p.stop))
     (enciphered (triad.stream key p.value.now) (slice p.output.now p.start (p.stop - p.start)))
@@ -33,8 +33,8 @@ due d =
     let f = l.before in
     let s = start f in
     let p = s.args in
-    let key = key_named p.t1 p.number in
-    d.tag_due.ensures
+    let key = key_named p.ring p.number in
+    d.tag_due-due.ensures
     ∙ sym (done_if _ _ _ (s.requires.1, tt))
     ∙ (λ i.
     triad.tag key p.value.now (f.slice-front.ensures i ++ l.slice-loops.ensures i)
@@ -58,7 +58,7 @@ returns c =
           d.tag_due-due.result,
       s.requires,
     ))
-    ∙ ap (λ (l : List ℕ). put out p.at (digits 256 1 8 ++ l)) (sym (append-nil (digits 256 8 d.tag_due.result)))
+    ∙ ap (λ (l : List ℕ). put out p.at (digits 256 1 8 ++ l)) (sym (append-nil (digits 256 8 d.tag_due-due.result)))
     ∙ ap (λ (n : ℕ). put out p.at (digits 256 1 8 ++ (digits 256 8 n ++ []))) (due d)
 
 pub write_tag_spec : {M : Type 1} → statement M

@@ -48,9 +48,9 @@ module _ (k : Keystream) (bytes : List ℕ) (room : List ℤ) {next : Keystream}
 returns : tie.Need-returns
 returns c =
     let w = c.before.before in
-    let r = w.before.before.before.before.before in
+    let r = w.before.before.before.before in
     let s = r.before.before in
-    let start = s.before.before.before in
+    let start = s.before.before.before.before in
     let p = start.args in
     let k : Keystream = ahead p.cipher in
     let bytes : List ℕ = slice p.body.now p.at p.size in

@@ -84,11 +84,11 @@ fault g =
 
 -- the opener's own outcome
 own : (s : tie.After-open-opened) → let t = s.before.before.before in
-    outcome s.«open».result s.«open».new.1.1.1.1.0
+    outcome s.open-opened.result s.open-opened.new.output
     ≡ opening_stereo_file (rings_of (lent t).args.keys.now) (lent t).args.file.now (lent t).args.frames.now
 own s =
     let t = s.before.before.before in
-    s.«open».ensures ∙ ap (λ (r : Rings). opening_stereo_file r (lent t).args.file.now (lent t).args.frames.now)
+    s.open-opened.ensures ∙ ap (λ (r : Rings). opening_stereo_file r (lent t).args.file.now (lent t).args.frames.now)
     (are t)
 
 returns : tie.Need-returns-then-keys-ne-KEYS_BYTES

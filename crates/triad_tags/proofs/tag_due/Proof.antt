@@ -37,7 +37,7 @@ returns : tie.Need-returns-then-value-ne-VALUE_BYTES
 returns c = left_at _ _ _ 0 tt (omega arith)
 
 begun-requires : tie.Need-begun-requires
-begun-requires c κs = (c.begun-arg-1.given.0, omega arith)
+begun-requires c κs = (c.begun-arg-1.given, omega arith)
 
 returns-2 : tie.Need-returns
 returns-2 c =
@@ -48,7 +48,7 @@ returns-2 c =
     let arg = begun.before in
     let p = arg.before.before.before.before.before.before.args in
     c.tag.ensures
-    ∙ tagged p.key.now p.value.now p.front.now p.loops.now p.body.now arg.tag_begun-arg-1.given.0
+    ∙ tagged p.key.now p.value.now p.front.now p.loops.now p.body.now arg.tag_begun-arg-1.given
     (omega arith) cipher.begun.result begun.tag_begun-made.ensures after.with_data-padded.ensures refl refl
     cipher.begun.ensures message.with_body-all.ensures refl
     ∙ done_if _ _ _ (omega arith, tt)
