@@ -4,7 +4,7 @@
 # Whatever is missing is installed from Debian's packages, by need_compilers, need_runner and need_builders; what is not
 # built yet is built by need_built and need_library.
 house=$(cd "$(dirname "${BASH_SOURCE[0]}")/.." && pwd)
-static_library=$house/target/staticlib/libsemivrakh.a
+static_library=$house/crates/semivrakh/out/libsemivrakh.a
 
 # Nothing here reads standard input: it belongs to the program that is run in the end.
 install_packages() {
@@ -33,20 +33,27 @@ need_rt() {
     exit 2
 }
 
-# is_new FILE: it is built, and nothing under crates/ changed since, a folder's list of files included
-is_new() { [ -f "$1" ] && [ -z "$(find "$house/crates" "$house/crates.txt" -newer "$1" -print -quit)" ]; }
+# is_new FILE: it is built, and nothing under crates/ changed since, a folder's list of files included. rt makes folders out/ there,
+# so these don't count, nor does the list of what stands beside them.
+is_new() {
+    [ -f "$1" ] && [ -z "$(find "$house/crates.txt" "$house/crates" -maxdepth 0 -newer "$1" -print -quit)" ] &&
+        [ -z "$(find "$house/crates" -mindepth 2 -name out -prune -o -newer "$1" -print -quit)" ]
+}
 
-# need_built FILE WHAT WORDS..: has `rt WORDS..` prove and build WHAT, which makes FILE, unless that is new. Nobody should
-# wait for minutes and not know why, so it is said first.
+# need_built CRATE FILE WHAT WORDS..: has `rt WORDS..` in the crate's folder prove and build WHAT, which makes FILE in its out/,
+# unless that is new. A program runs when it is built, on the crate's own `stdin`. Nobody should wait for minutes and not
+# know why, so it is said first.
 need_built() {
-    local file=$1 what=$2 log began status=0
-    shift 2
+    local crate=$house/crates/$1 what=$3 input=/dev/null log began status=0
+    local file=$crate/out/$2
+    shift 3
     is_new "$file" && return
     need_rt
-    echo "proving and building $what: about two minutes on two cores, less if parts are proved already" >&2
+    echo "proving and building $what: this can take many minutes, less if parts are proved already" >&2
+    [ ! -f "$crate/stdin" ] || input=$crate/stdin
     log=$(mktemp)
     began=$(date +%s.%N)
-    (cd "$house" && quietly rt "$@") </dev/null || status=$?
+    (cd "$crate" && quietly rt "$@") <"$input" || status=$?
     rm -f "$log"
     if [ "$status" -ne 0 ]; then
         echo "$what is not proved, so it was not built" >&2
@@ -55,7 +62,7 @@ need_built() {
     touch -c -d "@$began" "$file" # what changes while it is built is newer
 }
 
-need_library() { need_built "$static_library" "the library" staticlib semivrakh; }
+need_library() { need_built semivrakh libsemivrakh.a "the library" lib; }
 
 # on_path PACKAGE COMMAND: installs the package if the command is not there
 on_path() { command -v "$2" >/dev/null || install_packages "$1"; }
