@@ -47,15 +47,15 @@ said c o run e =
     let p = c.args in
     let r = with_numbers o c.before in
     elim c.match-what.branch [
-      in-Opening w ↦
-        subst (Says r p.sound run _) (sym w.in-Opening.is)
-        (w.content-is ∙ w.opening_fault-content.ensures o p.count p.sound ∙ rule_passes _ _ refl)
+      | in-Opening w ↦
+          subst (Says r p.sound run _) (sym w.in-Opening.is)
+          (w.content-is ∙ w.opening_fault-content.ensures o p.count p.sound ∙ rule_passes _ _ refl)
       | in-Block w ↦
-        subst (Says r p.sound run _) (sym w.in-Block.is)
-        (w.content-is ∙ w.block_fault-content.ensures o p.count run (counted run w.in-Block.is e)
-        ∙ rule_passes _ _ refl)
+          subst (Says r p.sound run _) (sym w.in-Block.is)
+          (w.content-is ∙ w.block_fault-content.ensures o p.count run (counted run w.in-Block.is e)
+          ∙ rule_passes _ _ refl)
       | in_default w ↦
-        w.content-is ∙ refused_at 0 _ (other run p.what w.in_default.not-Opening w.in_default.not-Block)
+          w.content-is ∙ refused_at 0 _ (other run p.what w.in_default.not-Opening w.in_default.not-Block)
     ]
 
 -- the frame's rules and the room's, behind the record's

@@ -67,14 +67,14 @@ after : (c : tie.Joined-step) → let s = c.before.before.before.before.before.b
     (covered trivium r.key r.pair r.session r.count (drop 8 p.frame.now))) p.sound.now
 after c =
     elim c.if-step.branch [
-      then-step w ↦ rw w.if-step.true (w.sound-is ∙ w.take.ensures)
+      | then-step w ↦ rw w.if-step.true (w.sound-is ∙ w.take.ensures)
       | else-step w ↦ rw w.if-step.false w.sound-is
     ]
 
 same_length : tie.Need-shape_of-sound
 same_length c =
     elim c.if-step.branch [
-      then-step w ↦ ap length (w.sound-is ∙ w.take.ensures) ∙ length_put _ _ _
+      | then-step w ↦ ap length (w.sound-is ∙ w.take.ensures) ∙ length_put _ _ _
       | else-step w ↦ ap length w.sound-is
     ]
 
