@@ -5,7 +5,7 @@ use mathlib.Core.{Bool.Bool, Bool.true, Bool.false, Bool.cond, List.List}
 use mathlib.Core.Path.{◌≡◌, refl, sym, ap, ◌∙◌}
 use native.Mathlib.Omega.{arith}
 use borrow.Author.Tests.{eqb-true}
-use lib.{ListN.get_or, ListN.length, ListN.take, Seq.take_all}
+use lib.{ListN.get_or, ListN.take, Seq.take_all}
 use Rattle.octets.specs.Buffers.{placed}
 use Rattle.refusals.specs.{Numbers.accepted, Outcome.Outcome, Outcome.outcome, Rules.Leaves}
 use Rattle.refusals.proofs.{Settled.settled_leaves, Settled.answer_done, Tests.and_second}

@@ -1,7 +1,7 @@
 -- A front's bytes read back are the front, with anything behind them; and bytes that were read as a front are written
 -- back. Both are the laws of rows, with the two names before them.
 use mathlib.Core.{Path.◌≡◌, Path.sym, Path.ap, Path.ap₂, Path.◌∙◌, List.List, List.◌++◌, List.append_assoc}
-use Prim.Native.Nat.{ℕ, ◌+◌, ◌≤◌}
+use Prim.Native.Nat.{ℕ, ◌≤◌}
 use native.Mathlib.Omega.{arith}
 use lib.{ListN.length, ListN.get_or, ListN.take, ListN.length-append, Seq.take_at}
 use Rattle.octets.specs.{Buffers.slice, Rows.row, Rows.numbers_at}

@@ -27,7 +27,7 @@ returns-3 : tie.Need-returns
 unfolding covered
 returns-3 c =
     let call = c.before.before in
-    let got = call.before.before.cipher-registers in
+    let got = call.cipher-registers in
     let p = call.args in
     let d : List ℕ = p.buffer.now in
     let run : List ℕ = p.run.now in

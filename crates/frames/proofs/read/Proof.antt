@@ -45,14 +45,14 @@ returns-5 c =
 returns-8 : tie.Need-returns-then-sound-le-MOST_BYTES
 returns-8 c =
     let e = c.before.before.before.before.before.before.before.before in
-    ap₂ the_told.Opening e.four_at-session.ensures c.before.before.four_at-sound.ensures
+    ap₂ the_told.Opening e.four_at-session.ensures c.four_at-sound.ensures
     ∙ tells_opening _ (omega (arith, kind e))
 
 returns-11 : tie.Need-returns-then-count-le-BLOCK_BYTES
 returns-11 c =
     let n = c.before.before.before in
     let e = n.before.before.before.before.before.before.before in
-    (λ i. the_told.Block (e.four_at-session.ensures i) (n.before.two_at-number.ensures i) ((count n).1 i))
+    (λ i. the_told.Block (e.four_at-session.ensures i) (n.two_at-number.ensures i) ((count n).1 i))
     ∙ tells_block _ (omega (arith, count n))
 
 pub read_spec : {M : Type 1} → statement M
@@ -66,7 +66,7 @@ read_spec =
     (λ c. tells_nothing _ (omega (arith, kind c.before.before.before.before.before.before.before.before)))
     (λ c. tells_nothing _ (omega (arith, kind c.before.before.before.before.before.before.before)))
     (λ c κs. tt) (λ c. omega arith) (λ c. omega (arith, c.shared_slice_known-3-1.given 7))
-    (λ c. omega (arith, c.before.shared_slice_known-3-1.given 7)) returns-11
+    (λ c. omega (arith, c.shared_slice_known-3-1.given 7)) returns-11
     (λ c. tells_nothing _ (omega (arith, count c.before.before.before)))
     (λ c. tells_nothing _ (omega (arith, count c.before.before)))
     (λ c. tells_nothing _ (omega (arith, count c.before))))

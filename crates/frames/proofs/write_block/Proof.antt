@@ -32,7 +32,7 @@ module _ (key pair : List ℕ) (session k : ℕ) where
 returns : tie.Need-returns-then-frame-lt8
 returns c =
     let p = c.args in
-    no_room p.key.now p.pair.now p.session p.k p.frame.now c.before.slice-run.ensures (omega arith)
+    no_room p.key.now p.pair.now p.session p.k p.frame.now c.slice-run.ensures (omega arith)
 
 returns-2 : tie.Need-returns-then-frame-n
 returns-2 c =

@@ -1,7 +1,7 @@
 -- `receiver::fault` meets its contract: the record comes first, then the frame by its kind, and at last the room.
 use mathlib.Core.{Logic.◌≢◌, Bool.false}
 use mathlib.Core.Path.{◌≡◌, refl, sym, subst, ◌∙◌}
-use mathlib.Core.List.{List, [], ◌∷◌, ◌++◌}
+use mathlib.Core.List.{List, ◌++◌}
 use Prim.Native.Nat.{ℕ}
 use native.Mathlib.Omega.{arith}
 use borrow.Author.Rules.{rules}

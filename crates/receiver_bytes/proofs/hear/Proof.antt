@@ -28,7 +28,7 @@ own h =
     let p = h.args in
     h.hear-taken.ensures
     ∙ ap (λ (r : Receiver). receiving trivium r p.sound.now p.answer.now p.frame.now)
-    h.before.before.before.receiver_in-record.ensures
+    h.receiver_in-record.ensures
 
 -- the lengths of its two arrays
 sizes : (h : tie.After-hear-taken)
@@ -51,13 +51,13 @@ unfolding receiver_hear receiving
 returns-2 c =
     let h = c.before.before.before.before.before.before.before.before.before.before in
     let p = h.args in
-    let z = c.before.before.before.before.before.if-refusal-ne-ACCEPTED.false in
+    let z = c.if-refusal-ne-ACCEPTED.false in
     let next = h.hear-taken.result.receiver in
     let rule = first_right _ _ tt (sym (answer_number _ _ _ (λ o. o.answer.refusal) refl (λ m. refl) (own h)) ∙ z) in
     let long = length_receiver next (sizes h).0 (sizes h).1 ∙ sym (in_rule_size p.receiver.now rule) in
     ap (λ (l : List ℕ). reception l h.hear-taken.new.sound h.hear-taken.new.answer
     h.hear-taken.result.length accepted)
-    (c.before.before.write_receiver.ensures ∙ put_whole p.receiver.now (receiver_bytes next) long)
+    (c.write_receiver.ensures ∙ put_whole p.receiver.now (receiver_bytes next) long)
     ∙ over_done _ _ _ (λ o. o.answer.refusal) refl (λ m. refl) (own h) told
     (reception p.receiver.now p.sound.now p.answer.now p.written.now) z
 

@@ -21,7 +21,7 @@ returns-2 c =
     let m = c.before.before in
     let p = m.args in
     made_short _ _ _ (λ a. a.refusal) (λ a. receiver_bytes a.receiver) _ _ tt refl (λ n. refl)
-    m.new-made.ensures c.before.if-refusal-ne-ACCEPTED.false c.if-receiver-lt-RECEIVER_BYTES.true
+    m.new-made.ensures c.if-refusal-ne-ACCEPTED.false c.if-receiver-lt-RECEIVER_BYTES.true
 
 returns-3 : tie.Need-returns
 unfolding receiver_make making_receiver
@@ -30,9 +30,9 @@ returns-3 c =
     let m = room.before.before in
     let p = m.args in
     made_stored _ _ _ (λ a. a.refusal) (λ a. receiver_bytes a.receiver) _ _ tt refl (λ n. refl)
-    m.new-made.ensures room.before.if-refusal-ne-ACCEPTED.false room.if-receiver-lt-RECEIVER_BYTES.false
+    m.new-made.ensures room.if-refusal-ne-ACCEPTED.false room.if-receiver-lt-RECEIVER_BYTES.false
     (λ h. length_receiver (fresh_receiver p.key.now p.pair.now) h.0 h.1.0)
-    c.before.before.write_receiver.ensures
+    c.write_receiver.ensures
 
 pub make_spec : {M : Type 1} → statement M
 make_spec = tie.close (tie.spec (λ c κs. tt) returns returns-2 (λ c κs. tt) (λ c. search rules) returns-3)

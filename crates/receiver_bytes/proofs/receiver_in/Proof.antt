@@ -14,7 +14,7 @@ unfolding receiver_in
 returns-2 c =
     let f = c.before.before.before in
     let front = f.front_in-front.ensures in
-    rw (eq-eqb (length f.args.bytes.now) receiver_size f.before.if-bytes-ne-RECEIVER_BYTES.false)
+    rw (eq-eqb (length f.args.bytes.now) receiver_size f.if-bytes-ne-RECEIVER_BYTES.false)
     (λ i. record {
       key = (front i).key;
       pair = (front i).pair;

@@ -12,9 +12,9 @@ unfolding front_in numbers_at
 returns c =
     let call = c.before.before.before.before in
     let e =
-    call.check_names-names.ensures ∙ ap₂ named call.before.before.slice.ensures call.before.slice-2.ensures in
+    call.check_names-names.ensures ∙ ap₂ named call.slice.ensures call.slice-2.ensures in
     λ i. record
-    { key = (e i).key; pair = (e i).pair; session = c.before.four_at-session.ensures i; length = c.four_at-length.ensures i }
+    { key = (e i).key; pair = (e i).pair; session = c.four_at-session.ensures i; length = c.four_at-length.ensures i }
 
 pub front_in_spec : {M : Type 1} → statement M
 front_in_spec =

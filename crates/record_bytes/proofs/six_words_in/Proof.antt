@@ -23,11 +23,11 @@ returns-2 c =
     let read : (at : ℕ) → word (number_at bytes at 8) ≡ number_at bytes at 8 =
     λ at. number_read bytes at 8 (λ i. omega (arith, known.shared_slice_known-1.given i)) (omega arith) in
     ◌∙◌ {b = six_of (numbers_at six_widths bytes 0)} (λ i. record {
-      a1 = (c.before.before.before.before.before.number_at-a1.ensures ∙ read 0) i;
-      a0 = (c.before.before.before.before.number_at-a0.ensures ∙ read 8) i;
-      b1 = (c.before.before.before.number_at-b1.ensures ∙ read 16) i;
-      b0 = (c.before.before.number_at-b0.ensures ∙ read 24) i;
-      c1 = (c.before.number_at-c1.ensures ∙ read 32) i;
+      a1 = (c.number_at-a1.ensures ∙ read 0) i;
+      a0 = (c.number_at-a0.ensures ∙ read 8) i;
+      b1 = (c.number_at-b1.ensures ∙ read 16) i;
+      b0 = (c.number_at-b0.ensures ∙ read 24) i;
+      c1 = (c.number_at-c1.ensures ∙ read 32) i;
       c0 = (c.number_at-c0.ensures ∙ read 40) i;
     })
     (six_read bytes (omega arith))

@@ -27,7 +27,7 @@ stored d numbers i p q = ap₂ (λ (e : List ℕ) (k : ℕ). set e i (get_or num
 loop-again : tie.Need-loop-i-preserved invariant-loop decreases-loop
 loop-again c =
     let p = c.args in
-    let l = c.before.before.loop-i in (
+    let l = c.loop-i in (
       omega arith,
       length-set l.d l.i _ ∙ l.invariant.1,
       stored _ p.numbers.now l.i l.invariant.2 (omega arith)
@@ -37,11 +37,11 @@ loop-again c =
 returns-2 : tie.Need-returns invariant-loop decreases-loop
 returns-2 c =
     let p = c.args in
-    let l = c.before.loop-i in
+    let l = c.loop-i in
     l.invariant.2 ∙ paste_all p.d.now 0 p.numbers.now l.i (omega arith) (omega arith)
 
 pub write_numbers_spec : {M : Type 1} → statement M
 write_numbers_spec =
     tie.close
     (tie.spec invariant-loop decreases-loop returns loop-holds (λ c. omega arith) (λ c. omega arith) (λ c. omega arith)
-    (λ c. omega arith) (λ c. omega arith) (λ c. omega arith) loop-again (λ c. c.before.loop-i.invariant.1) returns-2)
+    (λ c. omega arith) (λ c. omega arith) (λ c. omega arith) loop-again (λ c. c.loop-i.invariant.1) returns-2)

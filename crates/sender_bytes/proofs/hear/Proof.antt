@@ -14,7 +14,7 @@ own : (b : tie.After-hear-heard)
     → let p = b.args in b.hear-heard.result ≡ hearing (sender_in p.sender.now) p.frame.now
 own b =
     let p = b.args in b.hear-heard.ensures
-    ∙ ap (λ (s : Sender). hearing s p.frame.now) b.before.sender_in-record.ensures
+    ∙ ap (λ (s : Sender). hearing s p.frame.now) b.sender_in-record.ensures
 
 -- the lengths of its two arrays
 sizes : (b : tie.After-hear-heard)
@@ -29,8 +29,8 @@ returns-2 : tie.Need-returns
 unfolding sender_hear hearing
 returns-2 c =
     let b = c.before.before.before.before.before.before in
-    anew _ _ _ (own b) tt (λ h. h.0) c.before.before.before.before.before.if-refusal-ne-ACCEPTED.false (sizes b).0 (sizes b).1
-    c.before.before.write_sender.ensures
+    anew _ _ _ (own b) tt (λ h. h.0) c.if-refusal-ne-ACCEPTED.false (sizes b).0 (sizes b).1
+    c.write_sender.ensures
 
 pub hear_spec : {M : Type 1} → statement M
 hear_spec =

@@ -22,7 +22,7 @@ returns-2 c =
     let m = c.before.before in
     let p = m.args in
     made_short _ _ _ (λ a. a.refusal) (λ a. sender_bytes a.sender) _ _ tt refl (λ n. refl)
-    m.new-made.ensures c.before.if-refusal-ne-ACCEPTED.false c.if-sender-lt-SENDER_BYTES.true
+    m.new-made.ensures c.if-refusal-ne-ACCEPTED.false c.if-sender-lt-SENDER_BYTES.true
 
 returns-3 : tie.Need-returns
 unfolding sender_make making_sender
@@ -31,9 +31,9 @@ returns-3 c =
     let m = room.before.before in
     let p = m.args in
     made_stored _ _ _ (λ a. a.refusal) (λ a. sender_bytes a.sender) _ _ tt refl (λ n. refl)
-    m.new-made.ensures room.before.if-refusal-ne-ACCEPTED.false room.if-sender-lt-SENDER_BYTES.false
+    m.new-made.ensures room.if-refusal-ne-ACCEPTED.false room.if-sender-lt-SENDER_BYTES.false
     (λ h. length_sender (fresh_sender p.key.now p.pair.now) h.0 h.1.0)
-    c.before.before.write_sender.ensures
+    c.write_sender.ensures
 
 pub make_spec : {M : Type 1} → statement M
 make_spec = tie.close (tie.spec (λ c κs. tt) returns returns-2 (λ c κs. tt) (λ c. search rules) returns-3)

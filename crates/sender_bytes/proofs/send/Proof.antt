@@ -19,7 +19,7 @@ returns c =
     let n : ℕ = s.send-sent.result.refusal in
     let e =
     s.send-sent.ensures
-    ∙ ap (λ (x : Sender). sending trivium x p.sound.now p.frame.now) s.before.before.sender_in-record.ensures in
+    ∙ ap (λ (x : Sender). sending trivium x p.sound.now p.frame.now) s.sender_in-record.ensures in
     ap (λ (o : Outcome Sent ℕ). wrote o.buffer p.written.now n)
     (answer_left _ _ _ (λ o. o.answer.refusal) refl (λ m. refl) e c.if-refusal-ne-ACCEPTED.true)
     ∙ over_refused _ _ _ (λ o. o.answer.refusal) refl (λ m. refl) e
@@ -32,7 +32,7 @@ returns-2 c =
     let p = s.args in
     let e =
     s.send-sent.ensures
-    ∙ ap (λ (x : Sender). sending trivium x p.sound.now p.frame.now) s.before.before.sender_in-record.ensures in
+    ∙ ap (λ (x : Sender). sending trivium x p.sound.now p.frame.now) s.sender_in-record.ensures in
     over_done _ _ _ (λ o. o.answer.refusal) refl (λ m. refl) e
     (λ o. wrote o.buffer o.answer.length accepted) (wrote p.frame.now p.written.now) c.if-refusal-ne-ACCEPTED.false
 

@@ -25,9 +25,9 @@ unfolding phase_in
 returns-5 c =
     let n = c.args.number in
     rw (
-      ne_eqb n 0 c.before.before.before.if-number-eq0.false,
-      ne_eqb n 1 c.before.before.if-number-eq1.false,
-      ne_eqb n 2 c.before.if-number-eq2.false,
+      ne_eqb n 0 c.if-number-eq0.false,
+      ne_eqb n 1 c.if-number-eq1.false,
+      ne_eqb n 2 c.if-number-eq2.false,
       ne_eqb n 3 c.if-number-eq3.false,
     )
 

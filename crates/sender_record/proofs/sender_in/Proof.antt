@@ -44,7 +44,7 @@ module _ (bytes : List ℕ) where
 
 -- the two numbers that were read
 record Read (c : tie.After-two_at-known) : Type 0 where
-  number : c.before.number_at-number.result ≡ number_at c.args.bytes.now 24 1
+  number : c.number_at-number.result ≡ number_at c.args.bytes.now 24 1
   known : c.two_at-known.result ≡ number_at c.args.bytes.now 25 2
 
 read : (c : tie.After-two_at-known) → Read c
@@ -52,14 +52,14 @@ read c =
     record {
       number =
           (word_read c.args.bytes.now 24 1
-          (λ i. omega (arith, c.before.before.before.shared_slice_known-1.given i)) (omega arith)
-          c.before.number_at-number.ensures).0;
+          (λ i. omega (arith, c.shared_slice_known-1.given i)) (omega arith)
+          c.number_at-number.ensures).0;
       known = omega arith;
     }
 
 -- what the count decides, behind the other tests
 judged : (c : tie.Else-number-gt4) {b : Bool} → let seen = c.before in
-    may seen.before.number_at-number.result seen.two_at-known.result ≡ b
+    may seen.number_at-number.result seen.two_at-known.result ≡ b
     → is_sender seen.args.bytes.now ≡ b
 judged c so =
     let seen = c.before in
@@ -85,7 +85,7 @@ unfolding sender_in
 returns-3 c =
     let seen = c.before.before.before in
     let none =
-    none_is (eqb seen.before.number_at-number.result 2) (eqb seen.two_at-known.result 0) c.before.if-number-known.true in
+    none_is (eqb seen.number_at-number.result 2) (eqb seen.two_at-known.result 0) c.if-number-known.true in
     c.no_sender-then-number-known.ensures ∙ rw (judged c.before.before none)
 
 returns-4 : tie.Need-returns
@@ -93,7 +93,7 @@ unfolding sender_in
 returns-4 c =
     let f = c.before.before.before in
     let seen = f.before.before.before in
-    let one = one_is (eqb seen.before.number_at-number.result 2) (eqb seen.two_at-known.result 0) f.before.if-number-known.false in
+    let one = one_is (eqb seen.number_at-number.result 2) (eqb seen.two_at-known.result 0) f.if-number-known.false in
     let front = f.front_in-front.ensures in
     let phase = c.phase_in-phase.ensures ∙ ap₂ phase_in (read seen).number (read seen).known in
     rw (judged f.before.before one)

@@ -40,7 +40,7 @@ returns-2 c =
     let after : List ℕ = front.write_front.new.d in
     let same : length after ≡ length d =
     ap length front.write_front.ensures ∙ length_put d 0 (front_bytes (front_of s)) in
-    let n = front.before.before.phase_numbers-numbers in
+    let n = front.phase_numbers-numbers in
     let last : two.write_number-2.new.d ≡ put one.write_number.new.d 25 (digits 256 2 n.result.known) =
     two.write_number-2.ensures in
     last

@@ -29,13 +29,14 @@ module _ (c : tie.After-read-told) where
   fits = told_again message c.read-told.ensures
 
 -- no rule is broken
-right : (c : tie.Else-refusal-ne-ACCEPTED) (run : List ℕ) → let t = c.before.before.read-told.result in
+right : (c : tie.Else-refusal-ne-ACCEPTED) (run : List ℕ) → let t = c.read-told.result in
     let p = c.args in t ≡ told (heard_as run t)
     → AllRight (receive_faults p.self (length p.sound.now) (length p.answer.now) (heard_as run t))
 right c run e =
     let p = c.args in
     none_broken p.self (length p.sound.now) (length p.answer.now)
-    (heard_as run c.before.before.read-told.result) (sym (c.before.fault-refusal.ensures p.self run e) ∙ c.if-refusal-ne-ACCEPTED.false)
+    (heard_as run c.read-told.result)
+    (sym (c.fault-refusal.ensures p.self run e) ∙ c.if-refusal-ne-ACCEPTED.false)
 
 returns : tie.Need-returns-then-refusal-ne-ACCEPTED
 returns c =
@@ -43,7 +44,7 @@ returns c =
     let p = r.args in
     refused_so_lem trivium p.self p.sound.now p.answer.now p.frame.now _
     (told_back (message r) r.read-told.ensures) _ c.if-refusal-ne-ACCEPTED.true
-    (c.before.fault-refusal.ensures p.self (drop 8 (message r)) (fits r))
+    (c.fault-refusal.ensures p.self (drop 8 (message r)) (fits r))
 
 on-frame-requires : tie.Need-on_frame-step-requires
 on-frame-requires c κs =
@@ -51,12 +52,14 @@ on-frame-requires c κs =
       r.args.self,
       (
         (right c (drop 8 (message r)) (fits r)).0,
-        λ run e. (right_both (content_faults r.args.self (length r.args.sound.now) (heard_as run r.read-told.result)) _ (right c run e).1.1).0,
+        λ run e.
+            let what = heard_as run r.read-told.result in
+            (right_both (content_faults r.args.self (length r.args.sound.now) what) _ (right c run e).1.1).0,
       ),
     )
 
 add-length : tie.Need-overflow_add-result
-add-length c = omega (arith, c.before.before.before.before.before.before.before.on_frame-step.ensures.0)
+add-length c = omega (arith, c.on_frame-step.ensures.0)
 
 -- what the sound holds afterwards
 after : (c : tie.Joined-step) → let s = c.before.before.before.before.before.before in

@@ -12,7 +12,7 @@ of_names n = record { refusal = n.refusal; receiver = fresh_receiver n.key n.pai
 
 returns : tie.Need-returns
 unfolding making_receiver named
-returns c = ap of_names c.before.before.check_names-names.ensures ∙ settled_map of_names _ _ _
+returns c = ap of_names c.check_names-names.ensures ∙ settled_map of_names _ _ _
 
 pub new_spec : {M : Type 1} → statement M
 new_spec = tie.close (tie.spec (λ c κs. tt) returns)

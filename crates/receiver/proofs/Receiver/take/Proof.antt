@@ -23,14 +23,14 @@ in_place : (sound : List ℕ) (r : Receiver) {at : ℕ} {run own after : List �
 in_place sound r e here same = cc
 
 same_length : tie.Need-shape_of-sound
-same_length c = ap length c.before.before.cover.ensures ∙ length_put _ _ _
+same_length c = ap length c.cover.ensures ∙ length_put _ _ _
 
 returns : tie.Need-returns
 returns c =
     let call = c.before.before in
     let p = c.args in
     in_place p.sound.now p.self call.cover.ensures (omega arith)
-    (call.before.before.before.before.slice-run.ensures ∙ rest p.frame.now)
+    (call.slice-run.ensures ∙ rest p.frame.now)
 
 pub take_spec : {M : Type 1} → statement M
 take_spec =

@@ -14,7 +14,7 @@ returns c =
     let reading = c.before.before in
     let frame : List ℕ = reading.args.frame.now in
     rw (told_back frame reading.read-told.ensures)
-    (settled_left _ _ _ _ c.if-refusal-ne-ACCEPTED.true (c.before.hear_fault-refusal.ensures (drop 8 frame)))
+    (settled_left _ _ _ _ c.if-refusal-ne-ACCEPTED.true (c.hear_fault-refusal.ensures (drop 8 frame)))
 
 returns-2 : tie.Need-returns
 unfolding hearing
@@ -25,7 +25,7 @@ returns-2 c =
     let frame : List ℕ = reading.args.frame.now in
     rw (told_back frame reading.read-told.ensures)
     (ap agreed (call.informed-phase.ensures (drop 8 frame))
-    ∙ settled_done _ _ _ (sym call.before.if-refusal-ne-ACCEPTED.false ∙ fault.hear_fault-refusal.ensures (drop 8 frame)))
+    ∙ settled_done _ _ _ (sym call.if-refusal-ne-ACCEPTED.false ∙ fault.hear_fault-refusal.ensures (drop 8 frame)))
 
 pub hear_spec : {M : Type 1} → statement M
 hear_spec = tie.close (tie.spec (λ c κs. tt) (λ c κs. tt) returns (λ c κs. tt) returns-2)

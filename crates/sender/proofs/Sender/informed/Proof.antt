@@ -1,5 +1,5 @@
 -- `sender::Sender::informed` meets its contract: the new count and the count of blocks decide.
-use mathlib.Core.{Path.◌≡◌, Path.refl, Path.sym, Path.ap, List.List, List.[], List.◌∷◌}
+use mathlib.Core.{Path.◌≡◌, Path.refl, Path.sym, Path.ap, List.List}
 use Prim.Native.Nat.{ℕ}
 use native.Mathlib.Omega.{arith}
 use borrow.Author.{Rules.rules, Tests.lt-ltb, Tests.le-ltb}
@@ -11,7 +11,8 @@ use Rattle.sender.proofs.Sender.informed.Statement.{statement}
 use Rattle.sender.proofs.Sender.informed.Tie as tie
 
 -- with what was told
-so : (s : Sender) (run : List ℕ) {what t : Told} → what ≡ t → informed s (heard_as run t) ≡ informed s (heard_as run what)
+so : (s : Sender) (run : List ℕ) {what t : Told} → what ≡ t
+    → informed s (heard_as run t) ≡ informed s (heard_as run what)
 so s run e = ap (λ (t : Told). informed s (heard_as run t)) (sym e)
 
 returns : tie.Need-returns-then-count-new_count

@@ -12,7 +12,7 @@ made n = record { refusal = n.refusal; sender = fresh_sender n.key n.pair }
 
 returns : tie.Need-returns
 unfolding making_sender named
-returns c = ap made c.before.before.check_names-names.ensures ∙ settled_map made _ _ _
+returns c = ap made c.check_names-names.ensures ∙ settled_map made _ _ _
 
 pub new_spec : {M : Type 1} → statement M
 new_spec = tie.close (tie.spec (λ c κs. tt) returns)

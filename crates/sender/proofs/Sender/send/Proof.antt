@@ -30,7 +30,7 @@ fault_is : (c : tie.After-transfer_fault-refusal) → let p = c.args in
 unfolding first told
 fault_is c =
     let p = c.args in
-    let stage = c.before.before.before.stage-stage.ensures in
+    let stage = c.stage-stage.ensures in
     let n : ℕ = length p.sound.now in
     let room : ℕ = length p.frame.now in
     let rest =
