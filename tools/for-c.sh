@@ -33,16 +33,16 @@ need_rt() {
     exit 2
 }
 
-# is_new FILE: it is built, and nothing under crates/ changed since, a folder's list of files included. rt makes folders out/ there,
-# so these don't count, nor does the list of what stands beside them.
+# is_new FILE: it is built, and nothing under crates/ changed since, a folder's list of files included. rt makes folders
+# out/ there, so these don't count, nor does the list of what stands beside them.
 is_new() {
     [ -f "$1" ] && [ -z "$(find "$house/crates.txt" "$house/crates" -maxdepth 0 -newer "$1" -print -quit)" ] &&
         [ -z "$(find "$house/crates" -mindepth 2 -name out -prune -o -newer "$1" -print -quit)" ]
 }
 
-# need_built CRATE FILE WHAT WORDS..: has `rt WORDS..` in the crate's folder prove and build WHAT, which makes FILE in its out/,
-# unless that is new. A program runs when it is built, on the crate's own `stdin`. Nobody should wait for minutes and not
-# know why, so it is said first.
+# need_built CRATE FILE WHAT WORDS..: has `rt WORDS..` in the crate's folder prove and build WHAT, which makes FILE in its
+# out/, unless that is new. A program runs when it is built, on the crate's own `stdin`. Nobody should wait for minutes
+# and not know why, so it is said first.
 need_built() {
     local crate=$house/crates/$1 what=$3 input=/dev/null log began status=0
     local file=$crate/out/$2
