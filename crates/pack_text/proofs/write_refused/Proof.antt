@@ -1,6 +1,6 @@
 -- `pack_text::write_refused` meets its contract: one number is a line, and two are a word, a number and a line.
 use mathlib.Core.{Path.◌≡◌, Path.ap, Path.◌∙◌, List.List, List.[], List.◌∷◌, List.◌++◌}
-use Prim.Native.Nat.{ℕ, ◌+◌}
+use Prim.Native.Nat.{ℕ}
 use native.Mathlib.Omega.{arith}
 use borrow.Author.Rules.{rules}
 use lib.ListN.{length-append}
