@@ -1,7 +1,6 @@
 -- `sealer::write_end` meets its contract: without a tag its row has no bytes, and with one `write_tag` writes it.
-use mathlib.Core.{Path.◌≡◌, Path.sym, Path.ap, Path.subst, Path.◌∙◌, List.List}
+use mathlib.Core.{Path.◌≡◌, Path.sym, Path.subst, List.List}
 use Prim.Native.Nat.{ℕ, ◌+◌, ◌≤◌}
-use native.Mathlib.Omega.{arith}
 use borrow.Author.Rules.{rules}
 use lib.ListN.{length}
 use Rattle.octets.specs.{Buffers.put, Digits.digits, Rows.row}

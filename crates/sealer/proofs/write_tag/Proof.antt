@@ -1,9 +1,8 @@
 -- `sealer::write_tag` meets its contract: the tag that is due to what stands before it, behind its count.
-use mathlib.Core.{Path.◌≡◌, Path.sym, Path.ap, Path.◌∙◌, List.List, List.[], List.◌∷◌, List.◌++◌, List.append-nil}
-use Prim.Native.Nat.{ℕ, ◌+◌, ◌-◌}
+use mathlib.Core.{Path.◌≡◌, Path.sym, Path.ap, Path.◌∙◌, List.List, List.[], List.◌++◌, List.append-nil}
+use Prim.Native.Nat.{ℕ, ◌-◌}
 use native.Mathlib.Omega.{arith}
 use borrow.Author.Rules.{rules}
-use lib.ListN.{length}
 use Rattle.octets.specs.{Buffers.slice, Buffers.put, Digits.digits, Rows.row, Stream.enciphered}
 use Rattle.octets.proofs.{Buffers.puts_on, Numbers.length_digits}
 use Rattle.refusals.proofs.Settled.{done_if}
