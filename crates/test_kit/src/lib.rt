@@ -2,7 +2,7 @@
 
 // What the test programs share. A program reads rows from standard input, one on a line, and one loop runs them all:
 //
-//     read_rows(rt)                all of standard input
+//     read_rows(rt, rows)          standard input, as far as the lent bytes have room, and how many bytes it was
 //     line(rows, n)                the n-th line, from 0; an empty one is behind the last
 //     heading(rt, line)            prints a line that begins with `#` as it is, and answers whether it did
 //     field(line, n)               the n-th word of a row, from 0; empty if there is none
@@ -15,10 +15,9 @@
 //
 // None of these has a contract for what it reads or prints, and docs/DECISIONS.md says why. What reads or prints answers
 // an error where that fails, with which a program ends.
-ghost use Rattle.std.specs.Prelude.{◌<◌};
+ghost use Rattle.std.specs.Prelude.{◌<◌, ◌≤◌, length, IfOk};
 
 use std::io;
-use std::io::Read;
 
 // What each byte of an output is before a call, to see whether the call writes it.
 pub const UNTOUCHED: u8 = 0xa5;
@@ -43,11 +42,14 @@ fn part(text: &[u8], by: u8, n: usize) -> &[u8] {
     octets::slice(text, from, text.len())
 }
 
-// All of standard input.
-pub fn read_rows(rt: &(impl Input + AllocGlobal)) -> io::Result<Vec<u8>> {
-    let mut rows = Vec::new(rt.alloc());
-    rt.reader().read_to_end(&mut rows)?;
-    Ok(rows)
+// Room for all rows of a program.
+pub const ROOM: usize = 65536;
+
+// Reads rows from standard input, and answers how many bytes they are.
+pub fn read_rows(rt: &impl Input, rows: &mut [u8]) -> io::Result<usize>
+    ensures { IfOk result (λ n. n ≤ length rows.new) }
+{
+    whole_input::read_full(rt, rows)
 }
 
 pub fn line(rows: &[u8], n: usize) -> &[u8] {

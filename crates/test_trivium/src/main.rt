@@ -221,6 +221,7 @@ fn run_all(rt: &impl Print, rows: &[u8]) -> io::Result<()> {
 }
 
 fn main(rt: HostRuntime) -> io::Result<()> {
-    let rows = test_kit::read_rows(&rt)?;
-    run_all(&rt, &rows)
+    let mut input = [0; test_kit::ROOM];
+    let got = test_kit::read_rows(&rt, &mut input)?;
+    run_all(&rt, &input[..got])
 }
