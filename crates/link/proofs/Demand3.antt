@@ -59,4 +59,4 @@ module _ (cipher : Cipher) (w : World) where
 
   pub room_of_72 : (frame reply : List ℕ) → 72 ≤ length frame → answer_room ≤ length reply → Room cipher w frame reply
   room_of_72 frame reply long seven =
-      record { forFrame = omega (arith, due_fits w.sender.phase); for_answer = seven }
+      record { for_frame = omega (arith, due_fits w.sender.phase); for_answer = seven }

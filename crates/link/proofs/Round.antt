@@ -160,7 +160,7 @@ module _ {cipher : Cipher} {key pair : List ℕ} {room : ℕ} (w : World) (i : I
     writes : send_call cipher w frame reply
         ≡ outcome (record { refusal = accepted; length = length due; sender = w.sender }) (placed frame 0 due)
     unfolding sending
-    writes = sym (done_if _ _ _ (sender_in_rule_lem w i, (u, (i.begun.same, (lent.forFrame, tt)))))
+    writes = sym (done_if _ _ _ (sender_in_rule_lem w i, (u, (i.begun.same, (lent.for_frame, tt)))))
 
     calls : (f : Frame) (next : Sender) → Says f (receiving cipher w.receiver w.buffer reply due)
         → hearing w.sender (bytes f) ≡ agreed next
@@ -169,7 +169,7 @@ module _ {cipher : Cipher} {key pair : List ℕ} {room : ℕ} (w : World) (i : I
         × (hear_call cipher w frame reply ≡ agreed next)
     unfolding after_send after_receive
     calls f next said so =
-        rw (writes, take_placed frame due lent.forFrame) (refl, said.0, ap (hearing w.sender) said.1 ∙ so)
+        rw (writes, take_placed frame due lent.for_frame) (refl, said.0, ap (hearing w.sender) said.1 ∙ so)
 
     pub round : Well cipher w frame reply key pair buffer × Onward w.sender (after_round cipher w frame reply).sender
     unfolding after_round after_hear after_receive after_send

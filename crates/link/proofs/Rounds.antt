@@ -34,7 +34,7 @@ module _ (cipher : Cipher) (key pair buffer : List ℕ) (w : World) (n : ℕ) (f
     at : Reach cipher key pair buffer (after m)
     stands : Stands (news_by m) (after m).sender.phase
     same_session : (after m).sender.session ≡ w.sender.session
-    sameSound : (after m).sound ≡ w.sound
+    same_sound : (after m).sound ≡ w.sound
     early : m ≤ n + 1
     wells : (j : ℕ) → j < m → WellAt j
 
@@ -42,7 +42,7 @@ module _ (cipher : Cipher) (key pair buffer : List ℕ) (w : World) (n : ℕ) (f
       (room : (m : ℕ) → m ≤ n → Room cipher (after m) (frame m) (reply m)) where
     begun_length : (m : ℕ) → So m → length (sound_of w) ≡ (after m).sender.length
     begun_length m so =
-        (λ j. length (sym so.sameSound j (sym so.same_session j))) ∙ (holds_at so.at).begun.same
+        (λ j. length (sym so.same_sound j (sym so.same_session j))) ∙ (holds_at so.at).begun.same
 
     ends_done : (m : ℕ) → So m → (after m).sender.phase ≡ Done → End
     ends_done m so e =
@@ -54,7 +54,7 @@ module _ (cipher : Cipher) (key pair buffer : List ℕ) (w : World) (n : ℕ) (f
         let over : Over w (after m) =
         record {
           same_session = so.same_session;
-          sameSounds = so.sameSound;
+          same_sounds = so.same_sound;
           done = λ _. e;
           refused = λ short. absurd (omega arith);
         } in
@@ -68,7 +68,7 @@ module _ (cipher : Cipher) (key pair buffer : List ℕ) (w : World) (n : ℕ) (f
         let over : Over w (after m) =
         record {
           same_session = so.same_session;
-          sameSounds = so.sameSound;
+          same_sounds = so.same_sound;
           done = λ fits. absurd (omega arith);
           refused = λ _. e;
         } in
@@ -93,7 +93,7 @@ module _ (cipher : Cipher) (key pair buffer : List ℕ) (w : World) (n : ℕ) (f
           at = done.0.third;
           stands = ⊎_elim (λ now. inl (now.0, omega arith)) (λ over. inr over) done.1.1;
           same_session = done.1.0 ∙ so.same_session;
-          sameSound = so.sameSound;
+          same_sound = so.same_sound;
           early = omega arith;
           wells = λ j h. one_more_well m so done.0 j h (dec_lt j m);
         } in
@@ -119,5 +119,5 @@ module _ (cipher : Cipher) (key pair buffer : List ℕ) (w : World) (n : ℕ) (f
     ends u =
         let none : (j : ℕ) → j < 0 → WellAt j = λ j h. absurd (omega arith) in
         let so : So 0 =
-        record { at = r; stands = starts u; same_session = refl; sameSound = refl; early = omega arith; wells = none } in
+        record { at = r; stands = starts u; same_session = refl; same_sound = refl; early = omega arith; wells = none } in
         within (n + 1) 0 so (omega arith)

@@ -18,9 +18,9 @@ use Rattle.link.specs.World.{Reach, held_bytes, UnderWay}
 -- as an opening of the session in hand that isn't the same again
 pub record Possible (number : ℕ) : Type 0 where
   pub a_frame : number ≢ not_a_frame
-  pub canBe : number ≢ impossible
+  pub can_be : number ≢ impossible
   pub is_in_rule : number ≢ out_of_rule
-  pub sameLength : number ≢ other_length
+  pub same_length : number ≢ other_length
 
 -- at the receiver, moreover, its one buffer is never short for the transfer
 abbrev pub Fitting : ℕ → Type 0
@@ -53,7 +53,7 @@ module _ (cipher : Cipher) (w : World) (frame reply : List ℕ) where
 
   -- room for the frame at the sender is its length, and at the receiver room for any answer
   pub record Room : Type 0 where
-    pub forFrame : length (due_in cipher w.sender (sound_of w) w.sender.phase) ≤ length frame
+    pub for_frame : length (due_in cipher w.sender (sound_of w) w.sender.phase) ≤ length frame
     pub for_answer : answer_room ≤ length reply
 
   -- a round goes well: none of its three calls is refused, and every moment of it can come about
@@ -74,7 +74,7 @@ rounds cipher frame reply (suc m) w = after_round cipher (rounds cipher frame re
 -- the receiver's buffer.
 pub record Over (w v : World) : Type 0 where
   pub same_session : v.sender.session ≡ w.sender.session
-  pub sameSounds : v.sound ≡ w.sound
+  pub same_sounds : v.sound ≡ w.sound
   pub done : length (sound_of w) ≤ length w.buffer → v.sender.phase ≡ Done
   pub refused : length w.buffer < length (sound_of w) → v.sender.phase ≡ Refused TooLong
 

@@ -261,9 +261,9 @@ module _ (cipher : Cipher) (ring : List (List ℕ)) (file : List ℕ) (right : A
         let loop = loop_right cipher file right in
         record {
           name_count = omega (arith, length_slice file 1 (name_count file) right.1.1.0);
-          nameBytes = right.1.1.1.0;
+          name_bytes = right.1.1.1.0;
           key_number = key.1.1.1.0;
-          valueCount = length_slice file (value_place file) cipher.value_bytes key.1.1.0;
+          value_count = length_slice file (value_place file) cipher.value_bytes key.1.1.0;
           value_bytes = below_slice file (value_place file) cipher.value_bytes b;
           sample_count = omega (arith, samples_counted);
           samples = all_good _ (words_good (enciphered stream body));

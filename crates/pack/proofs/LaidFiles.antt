@@ -127,7 +127,7 @@ module _ (cipher : Cipher) (short : cipher.tag_bytes < 256) (ring : List (List �
   name_right more =
       let h = key_there.room in (
         omega arith,
-        (omega (arith, name_count_lem, w.name_count), (omega arith, (ap name_good name_laid ∙ w.nameBytes, more))),
+        (omega (arith, name_count_lem, w.name_count), (omega arith, (ap name_good name_laid ∙ w.name_bytes, more))),
       )
 
   number_laid : key_number file ≡ p.key_number
@@ -138,11 +138,11 @@ module _ (cipher : Cipher) (short : cipher.tag_bytes < 256) (ring : List (List �
   value_there = tail_next (suc cipher.value_bytes ∷ p.key_number ∷ []) (p.value ++ behind_key) 2 refl key_there
 
   value_laid : slice file (value_place file) cipher.value_bytes ≡ p.value
-  value_laid = tail_run p.value behind_key cipher.value_bytes w.valueCount value_there
+  value_laid = tail_run p.value behind_key cipher.value_bytes w.value_count value_there
 
   count_there : Tail file (sample_place cipher file)
       (row (fours 1) (length p.samples ∷ []) ++ (body ++ behind_samples))
-  count_there = rw append_assoc at (tail_next p.value behind_key cipher.value_bytes w.valueCount value_there)
+  count_there = rw append_assoc at (tail_next p.value behind_key cipher.value_bytes w.value_count value_there)
 
   key_right : AllRight (faults_from_samples cipher file (sample_place cipher file))
       → AllRight (faults_from_key cipher file (key_place file))
@@ -260,7 +260,7 @@ module _ (cipher : Cipher) (short : cipher.tag_bytes < 256) (ring : List (List �
         arith,
         length_row (fours 1) (length p.samples ∷ []),
         name_count_lem,
-        w.valueCount,
+        w.value_count,
       )) in
       (λ i.
       tail_run front (body ++ behind_samples) (body_place cipher file) long (subst (Tail file 0) cut t) i

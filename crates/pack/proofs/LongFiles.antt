@@ -59,9 +59,9 @@ long_within count some most =
     let counted = length-replicate count (pos 0) in
     record {
       name_count = omega arith;
-      nameBytes = refl;
+      name_bytes = refl;
       key_number = omega arith;
-      valueCount = refl;
+      value_count = refl;
       value_bytes = λ i. equal_elements (λ (x : ℕ). x < 256) 12 i 0 0 (omega arith) (omega arith);
       sample_count = omega arith;
       samples = all_good _ (λ i. equal_elements Good count i (pos 0) (pos 0) (omega arith) (omega arith));

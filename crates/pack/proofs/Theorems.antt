@@ -102,9 +102,9 @@ within_sealed cipher p size room w h =
     let even = loops_even (length p.samples) p.loops w.loops in (
       w.name_count,
       (
-        w.nameBytes,
+        w.name_bytes,
         (
-          w.valueCount,
+          w.value_count,
           (w.key_number, (w.sample_count, (w.samples, (w.loop_count, (omega arith, (w.loops, (h, tt))))))),
         ),
       ),
@@ -117,8 +117,8 @@ unfolding seal_faults
 sealed_within cipher p size room h values =
     record {
       name_count = h.0;
-      nameBytes = h.1.0;
-      valueCount = h.1.1.0;
+      name_bytes = h.1.0;
+      value_count = h.1.1.0;
       key_number = h.1.1.1.0;
       value_bytes = values;
       sample_count = h.1.1.1.1.0;

@@ -38,17 +38,17 @@ abbrev pub cipher_in : List ℕ → Cipher
 cipher_in file = cipher_of (kind_in file)
 
 pub record Rings : Type 0 where
-  pub ofTrivium : List (List ℕ)
+  pub of_trivium : List (List ℕ)
   pub of_enocoro : List (List ℕ)
-  pub ofTriad : List (List ℕ)
+  pub of_triad : List (List ℕ)
 
 abbrev pub rings : List (List ℕ) → List (List ℕ) → List (List ℕ) → Rings
-rings first second third = record { ofTrivium = first; of_enocoro = second; ofTriad = third }
+rings first second third = record { of_trivium = first; of_enocoro = second; of_triad = third }
 
 abbrev pub ring_for : Kind → Rings → List (List ℕ)
-ring_for Trivium r = r.ofTrivium
+ring_for Trivium r = r.of_trivium
 ring_for Enocoro r = r.of_enocoro
-ring_for Triad r = r.ofTriad
+ring_for Triad r = r.of_triad
 
 abbrev pub ring_in : Rings → List ℕ → List (List ℕ)
 ring_in r file = ring_for (kind_in file) r

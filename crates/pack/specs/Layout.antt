@@ -39,9 +39,9 @@ loops_good count (start ∷ end ∷ loops) = ltb start end && leb end count && l
 -- the limits of each part
 pub record Within (cipher : Cipher) (p : Parts) : Type 0 where
   pub name_count : length p.name ≤ most_name
-  pub nameBytes : name_good p.name ≡ true
+  pub name_bytes : name_good p.name ≡ true
   pub key_number : p.key_number ≤ last_key
-  pub valueCount : length p.value ≡ cipher.value_bytes
+  pub value_count : length p.value ≡ cipher.value_bytes
   pub value_bytes : (i : ℕ) → get_or p.value i 0 < 256
   pub sample_count : length p.samples ≤ most_samples
   pub samples : samples_good p.samples ≡ true

@@ -110,5 +110,5 @@ told_alike file keys =
       numbers = survey_told file keys;
       loops = loops_told file keys;
       cut = cut_survey file;
-      cutOpening = cut_open file keys;
+      cut_opening = cut_open file keys;
     }

@@ -19,5 +19,5 @@ pub record ToldAlike (file keys : List ℕ) : Type 0 where
   -- a file lacks bytes where it is surveyed with 30 to 33, or opened so with keys of 168 bytes, and with no other
   -- number but 45
   pub cut : (answer : List ℕ) → CutsLack (pack_survey file answer).answer (pack_lacks file)
-  pub cutOpening : (samples : List ℤ) (answer : List ℕ) → length keys ≡ keys_bytes
+  pub cut_opening : (samples : List ℤ) (answer : List ℕ) → length keys ≡ keys_bytes
       → CutsLack (pack_open file keys samples answer).number (pack_lacks file)

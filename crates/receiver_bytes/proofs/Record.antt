@@ -47,8 +47,8 @@ receiver_back r fits small =
     let x : numbers_at count_widths bytes front_size ≡ r.count ∷ [] =
     ap (λ (l : List ℕ). numbers_at count_widths (front_bytes (front_of r) ++ l) front_size) (sym (append-nil rest))
     ∙ numbers_back count_widths (r.count ∷ []) (front_bytes (front_of r)) [] front_size
-    (length_front (front_of r) fits.key_long fits.pairLong) small in
-    rw (eq-eqb (length bytes) receiver_size (length_receiver r fits.key_long fits.pairLong))
+    (length_front (front_of r) fits.key_long fits.pair_long) small in
+    rw (eq-eqb (length bytes) receiver_size (length_receiver r fits.key_long fits.pair_long))
     (λ i. record {
       key = (front i).key;
       pair = (front i).pair;

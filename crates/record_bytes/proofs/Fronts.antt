@@ -33,18 +33,18 @@ front_back f rest fits =
     let numbers : List ℕ = row front_widths (front_numbers f) in
     let flat : key ++ pair ++ numbers ++ rest ≡ (key ++ pair) ++ (numbers ++ rest) =
     append_assoc (key ++ pair) numbers rest in
-    let two : length (key ++ pair) ≡ 16 = length-append key pair ∙ omega (arith, fits.key_long, fits.pairLong) in
+    let two : length (key ++ pair) ≡ 16 = length-append key pair ∙ omega (arith, fits.key_long, fits.pair_long) in
     let first : slice (key ++ pair ++ numbers ++ rest) 0 key_bytes ≡ key =
     ap (λ (l : List ℕ). slice l 0 key_bytes) (flat ∙ append_assoc key pair (numbers ++ rest))
     ∙ take_at key (pair ++ (numbers ++ rest)) key_bytes fits.key_long in
     let second : slice (key ++ pair ++ numbers ++ rest) key_bytes pair_bytes ≡ pair =
     ap (λ (l : List ℕ). slice l key_bytes pair_bytes) flat
     ∙ slice_front (key ++ pair) (numbers ++ rest) key_bytes pair_bytes (omega arith)
-    ∙ slice_behind key pair key_bytes pair_bytes fits.key_long fits.pairLong in
+    ∙ slice_behind key pair key_bytes pair_bytes fits.key_long fits.pair_long in
     let n : named (slice (key ++ pair ++ numbers ++ rest) 0 key_bytes)
     (slice (key ++ pair ++ numbers ++ rest) key_bytes pair_bytes)
     ≡ record { refusal = 0; key = key; pair = pair } =
-    ap₂ named first second ∙ names_read key pair fits.key_long fits.pairLong in
+    ap₂ named first second ∙ names_read key pair fits.key_long fits.pair_long in
     let x : numbers_at front_widths (key ++ pair ++ numbers ++ rest) 16 ≡ front_numbers f =
     ap (λ (l : List ℕ). numbers_at front_widths l 16) flat
     ∙ numbers_back front_widths (front_numbers f) (key ++ pair) rest 16 two fits.numbers in

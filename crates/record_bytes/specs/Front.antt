@@ -28,5 +28,5 @@ front_in bytes =
 -- fronts that the code's types hold
 pub record FrontFits (f : Front) : Type 0 where
   pub key_long : length f.key ≡ key_bytes
-  pub pairLong : length f.pair ≡ pair_bytes
+  pub pair_long : length f.pair ≡ pair_bytes
   pub numbers : Fits front_widths (front_numbers f)

@@ -70,12 +70,12 @@ unfolding sender_in sender_bytes is_sender numbers_at
 sender_back s fits small =
     let rest : List ℕ = row phase_widths (phase_numbers s.phase) in
     let bytes : List ℕ = front_bytes (front_of s) ++ rest in
-    let size : length bytes ≡ sender_size = length_sender s fits.key_long fits.pairLong in
+    let size : length bytes ≡ sender_size = length_sender s fits.key_long fits.pair_long in
     let front = front_back (front_of s) rest fits in
     let x : numbers_at phase_widths bytes front_size ≡ phase_numbers s.phase =
     ap (λ (l : List ℕ). numbers_at phase_widths (front_bytes (front_of s) ++ l) front_size) (sym (append-nil rest))
     ∙ numbers_back phase_widths (phase_numbers s.phase) (front_bytes (front_of s)) [] front_size
-    (length_front (front_of s) fits.key_long fits.pairLong) small in
+    (length_front (front_of s) fits.key_long fits.pair_long) small in
     let rule : (leb (number_at bytes 24 1) 4 && (eqb (number_at bytes 24 1) 2 || eqb (number_at bytes 25 2) 0)) ≡ true =
     ap (λ (l : List ℕ). leb (get_or l 0 0) 4 && (eqb (get_or l 0 0) 2 || eqb (get_or l 1 0) 0)) x ∙ phase_rule s.phase in
     let phase : phase_in (number_at bytes 24 1) (number_at bytes 25 2) ≡ s.phase =
