@@ -77,30 +77,22 @@ module _ (c : tie.Joined-what) (o : Receiver) (run : List ℕ) where
 returns : tie.Need-returns-then-not-in_rule
 returns c o run e = refused_at 0 _ (sym (c.in_rule.ensures o) ∙ c.if-not-in_rule.true)
 
-returns-2 : tie.Need-returns-then-content-ne-ACCEPTED
-returns-2 c o run e =
-    let m = c.before in
-    let some : m.match-what.content ≢ accepted = omega arith in
-    first_here (frame m o run) (room m o run) (numbers m o run) _ some (said m o run e) ∙ behind m o run
-
 -- with no rule of the frame broken, the room decides
-last : (c : tie.Else-content-ne-ACCEPTED) (o : Receiver) (run : List ℕ) → let p = c.args in
+last : (m : tie.Joined-what) → accepted ≡ m.match-what.content → (o : Receiver) (run : List ℕ) → let p = m.args in
     p.what ≡ told (heard_as run p.what)
     → first (room_faults p.reply)
-    ≡ first (receive_faults (with_numbers o c.before.before) p.sound p.reply (heard_as run p.what))
-last c o run e =
-    let m = c.before in
-    let none : accepted ≡ m.match-what.content = omega arith in
+    ≡ first (receive_faults (with_numbers o m.before) p.sound p.reply (heard_as run p.what))
+last m none o run e =
     first_later (frame m o run) (room m o run) (numbers m o run) (none ∙ said m o run e) ∙ behind m o run
-
-returns-3 : tie.Need-returns-then-reply-lt-ANSWER_ROOM
-returns-3 c o run e = refused_at 0 _ (omega arith) ∙ last c.before o run e
-
-returns-4 : tie.Need-returns
-returns-4 c o run e = all_right _ (omega arith) ∙ last c.before o run e
 
 pub fault_spec : {M : Type 1} → statement M
 fault_spec =
     tie.close
     (tie.spec (λ c κs. search rules) returns (λ c. search rules) (λ c κs. search rules) (λ c. search rules)
-    (λ c κs. search rules) returns-2 returns-3 returns-4)
+    (λ c κs. search rules)
+    (λ c o run e.
+    let m = c.before in
+    let some : m.match-what.content ≢ accepted = omega arith in
+    first_here (frame m o run) (room m o run) (numbers m o run) _ some (said m o run e) ∙ behind m o run)
+    (λ c o run e. refused_at 0 _ (omega arith) ∙ last c.before.before (omega arith) o run e)
+    (λ c o run e. all_right _ (omega arith) ∙ last c.before.before (omega arith) o run e))
