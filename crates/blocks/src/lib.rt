@@ -1,6 +1,6 @@
 #![tactic(auto)]
 
-ghost use Rattle.std.specs.Prelude.{◌≡◌, length};
+ghost use Rattle.std.specs.Prelude.{◌≡◌};
 ghost use Rattle.octets.specs.Buffers.{put};
 ghost use Rattle.octets.specs.Stream.{from};
 ghost use Rattle.trivium.specs.Keystream.{keystream, trivium};
@@ -19,39 +19,26 @@ pub const MOST_BYTES: usize = 32768;
 pub fn block_count(length: u32) -> u32
     ensures { result ≡ blocks length }
 {
-    if length % 64 == 0 {
-        length / 64
-    } else {
-        length / 64 + 1
-    }
+    length.div_ceil(64)
 }
 
 // How many bytes block k of a sound has that is `length` bytes long.
 pub fn block_size(length: usize, k: u16) -> usize
     ensures { result ≡ size length k }
 {
-    let at = BLOCK_BYTES * (k as usize);
-    if length <= at {
-        return 0;
-    }
-    if length - at < BLOCK_BYTES {
-        length - at
-    } else {
-        BLOCK_BYTES
-    }
+    let left = length.saturating_sub(BLOCK_BYTES * k as usize);
+    left.min(BLOCK_BYTES)
 }
 
 // A session's cipher, made anew and moved on to block k of the sound, whose 64 bytes are eight strides.
-fn cipher(key: &[u8], pair: &[u8], session: u32, k: u16) -> Registers
-    requires { (length key.now ≡ 10) × (length pair.now ≡ 6) }
+fn cipher(key: &[u8; 10], pair: &[u8; 6], session: u32, k: u16) -> Registers
     ensures { keystream (state result)
         ≡ from (place k) (trivium.stream key.now (initial pair.now session)) }
 {
     let mut value = [0; 10];
-    octet_writer::copy(&mut value, 0, pair);
-    octet_writer::write_number(&mut value, 6, 4, session as u64);
-    let made = trivium_seek::make_at(key, &value, 8 * (k as u32));
-    made.registers
+    value[..6].copy_from_slice(pair);
+    value[6..].copy_from_slice(&session.to_be_bytes());
+    trivium_seek::make_at(key, &value, 8 * k as u32).unwrap()
 }
 
 // Block k under its part of the session's stream, to its place in a buffer, if it has room there. There and back again
@@ -68,12 +55,10 @@ pub fn cover(
     ensures { buffer.new ≡ put buffer.old at
         (covered trivium key.now pair.now session k run.now) }
 {
-    if buffer.len() < at {
+    if buffer.len() < at || buffer.len() - at < run.len() {
         return;
     }
-    if buffer.len() - at < run.len() {
-        return;
-    }
-    let registers = cipher(key, pair, session, k);
-    registers.encipher(run, &mut buffer[at..]);
+    cipher(key, pair, session, k)
+        .encipher(run, &mut buffer[at..])
+        .unwrap();
 }

@@ -1,11 +1,14 @@
 -- Where a pack's body begins: its cipher's keystream, under the key of its ring that a key number names.
-use Rattle.std.specs.Prelude.{ℕ, ◌+◌, List, ◌∷◌}
-use Rattle.octets.specs.{Buffers.slice, Stream.Keystream}
-use Rattle.refusals.specs.Numbers.{accepted, bad_key_number}
+use Rattle.std.specs.Prelude.{ℕ, ◌+◌, List, ◌∷◌, Result, Ok, Err}
+use Rattle.octets.specs.{Buffers.slice, Stream.Cipher, Stream.Keystream}
+use Rattle.refusals.specs.{Numbers.accepted, Numbers.bad_key_number, Answers.number_of, declared.Refusal.Refusal}
 use Rattle.refusals.specs.Rules.{◌over◌, Fault, ◌says◌, settled}
-use Rattle.ciphers.specs.Calls.{value_faults}
-use Rattle.trivium.specs.Calls.{refused_making, ahead}
-use Rattle.pack.specs.Ciphers.{cipher_of, picked, Rings, ring_for}
+use Rattle.ciphers.specs.Calls.{value_faults, make_faults}
+use Rattle.trivium.specs.Calls.{blank}
+use Rattle.chunks.specs.{Ahead.ahead, declared.Cipher.TheVariants.Trivium}
+use Rattle.chunks.specs.declared.Cipher as chunks
+use Rattle.pack.specs.Ciphers.{cipher_of, picked, ring_for}
+use Rattle.pack.specs.declared.Rings.{Rings}
 use Rattle.pack.specs.{Layout.key_named, Limits.last_key, Places.byte_at, declared.Kind.Kind}
 
 -- 14, and 2
@@ -24,7 +27,17 @@ abbrev pub ready : ℕ → Keystream → Ready
 ready refusal stream = record { refusal = refusal; stream = stream }
 
 abbrev pub refused_beginning : ℕ → Ready
-refused_beginning number = ready number (ahead (refused_making number).registers)
+refused_beginning number = ready number (ahead (Trivium blank))
+
+-- what an Ok or an Err stands for
+abbrev pub begun : Result chunks.Cipher Refusal → Ready
+begun (Ok cipher) = ready accepted (ahead cipher)
+begun (Err refusal) = refused_beginning (number_of refusal)
+
+-- a cipher made of any key and initial value
+abbrev pub made_by : Cipher → List ℕ → List ℕ → Ready
+made_by cipher key value =
+    settled (make_faults cipher key value) (ready accepted (cipher.stream key value)) refused_beginning
 
 unfoldable pub beginning : Kind → Rings → ℕ → List ℕ → Ready
 beginning kind r number value =

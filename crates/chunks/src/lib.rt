@@ -2,12 +2,14 @@
 
 // Bodies of samples under a cipher's keystream, whichever cipher it is: enciphered bytes, read as samples chunk by
 // chunk, and samples, written as enciphered bytes.
-ghost use Rattle.std.specs.Prelude.{◌≡◌, ◌+◌, ◌/◌, ◌≤◌, length};
-ghost use Rattle.octets.specs.Buffers.{slice, put};
+ghost use Rattle.std.specs.Prelude.{◌≡◌, ◌≤◌, length};
+ghost use Rattle.octets.specs.Buffers.{put};
 ghost use Rattle.octets.specs.Stream.{from, enciphered};
 ghost use Rattle.refusals.specs.Outcome.{outcome};
 ghost use Rattle.samples.specs.Words.{words_of, bytes_of_all};
 ghost use Rattle.chunks.specs.Ahead.{ahead, reading_on};
+
+use ciphers::StreamCipher;
 
 // A cipher at some place of its keystream.
 #[derive(Clone, Copy)]
@@ -17,15 +19,8 @@ pub enum Cipher {
     Triad(triad::Registers),
 }
 
-// How many bytes are deciphered at a time. The cipher is chosen, and Enocoro's table made, once for as many.
-const CHUNK: usize = 1024;
-
-// Room for them. Its length is all that anybody needs to know of it.
-fn blank() -> [u8; 1024]
-    ensures { 1024 ≡ length result }
-{
-    [0; CHUNK]
-}
+// How many bytes are deciphered at a time. The cipher is chosen once for as many.
+pub const CHUNK: usize = 1024;
 
 // Bytes under the keystream where they stand, and the cipher behind them.
 fn cover(cipher: Cipher, bytes: &mut [u8]) -> Cipher
@@ -35,21 +30,22 @@ fn cover(cipher: Cipher, bytes: &mut [u8]) -> Cipher
     match cipher {
         Cipher::Trivium(registers) => Cipher::Trivium(registers.cover(bytes)),
         Cipher::Enocoro(registers) => Cipher::Enocoro(registers.cover(bytes)),
-        Cipher::Triad(registers) => Cipher::Triad(triad_runs::cover(registers, bytes)),
+        Cipher::Triad(registers) => Cipher::Triad(registers.cover(bytes)),
     }
 }
 
-// So many bytes of the body from `at`, deciphered and read as samples to their place; and the cipher behind them.
-fn read_chunk(cipher: Cipher, body: &[u8], output: &mut [i16], at: usize, size: usize) -> Cipher
-    requires { (size ≤ 1024) × (at + size ≤ length body.now) × (at / 2 + size / 2 ≤ length output.old) }
-    ensures { (ahead result ≡ from size (ahead cipher)) × (output.new ≡ put output.old (at / 2)
-        (words_of (enciphered (ahead cipher) (slice body.now at size)))) }
+// Bytes of a body, deciphered and read as samples to the front of the output, if they have room there; and the cipher
+// behind them.
+fn read_chunk(cipher: Cipher, bytes: &[u8], output: &mut [i16]) -> Cipher
+    requires { length bytes.now ≤ 1024 }
+    ensures { (ahead result ≡ from (length bytes.now) (ahead cipher))
+        × (output.new ≡ put output.old 0 (words_of (enciphered (ahead cipher) bytes.now))) }
 {
-    let mut chunk = blank();
-    octet_writer::copy(&mut chunk, 0, octets::slice(body, at, size));
-    let next = cover(cipher, &mut chunk[0..size]);
-    let place = at / 2;
-    sample_runs::read_words(octets::slice(&chunk, 0, size), &mut output[place..]);
+    let mut chunk = [0; CHUNK];
+    let plain = &mut chunk[..bytes.len()];
+    plain.copy_from_slice(bytes);
+    let next = cover(cipher, plain);
+    sample_runs::read_words(plain, output);
     next
 }
 
@@ -58,17 +54,16 @@ pub fn read_samples(start: Cipher, body: &[u8], output: &mut [i16]) -> Cipher
     ensures { outcome (ahead result) output.new
         ≡ reading_on (ahead start) body.now output.old }
 {
-    let n = body.len();
-    if output.len() < n / 2 {
+    if output.len() < body.len() / 2 {
         return start;
     }
     let mut cipher = start;
     let mut at = 0;
-    while at + CHUNK <= n {
-        cipher = read_chunk(cipher, body, output, at, CHUNK);
-        at += CHUNK;
+    for bytes in body.chunks(CHUNK) {
+        cipher = read_chunk(cipher, bytes, &mut output[at / 2..]);
+        at += bytes.len();
     }
-    read_chunk(cipher, body, output, at, n % CHUNK)
+    cipher
 }
 
 // All samples, as bytes and enciphered, from `at`, if they have room there. As bytes they are written all at once,
@@ -78,13 +73,9 @@ pub fn write_samples(start: Cipher, samples: &[i16], output: &mut [u8], at: usiz
         ≡ put output.old at (enciphered (ahead start) (bytes_of_all samples.now)) }
 {
     let n = 2 * samples.len();
-    if output.len() < at {
-        return;
+    if at <= output.len() && n <= output.len() - at {
+        let place = &mut output[at..at + n];
+        sample_runs::write_words(samples, place);
+        cover(start, place);
     }
-    if output.len() - at < n {
-        return;
-    }
-    sample_runs::write_words(samples, &mut output[at..]);
-    let end = at + n;
-    cover(start, &mut output[at..end]);
 }

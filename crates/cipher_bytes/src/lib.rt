@@ -3,71 +3,39 @@
 // The cipher for callers in other languages, who keep its record as bytes. A refused call writes nothing of all that it
 // was lent.
 ghost use Rattle.std.specs.Prelude.{◌≡◌};
+ghost use Rattle.refusals.specs.Answers.{number_in};
 ghost use Rattle.refusals.specs.Outcome.{outcome};
 ghost use Rattle.record_bytes.specs.Ciphers.{ciphered};
 ghost use Rattle.cipher_bytes.specs.Calls.{cipher_make, cipher_encipher};
-ghost use Rattle.cipher_bytes.specs.Record.{six_of, registers_of};
 
-use record_bytes::SixWords;
+use refusals::Refusal;
 use trivium::Registers;
 
 pub const CIPHER_BYTES: usize = 48;
 
-// The registers that six words are, and the words that registers are.
-fn registers_of(words: SixWords) -> Registers
-    ensures { result ≡ registers_of words }
+pub fn make(cipher: &mut [u8], key: &[u8], value: &[u8]) -> Result<(), Refusal>
+    ensures { outcome (number_in result) cipher.new
+        ≡ cipher_make cipher.old key.now value.now }
 {
-    Registers {
-        a1: words.a1,
-        a0: words.a0,
-        b1: words.b1,
-        b0: words.b0,
-        c1: words.c1,
-        c0: words.c0,
-    }
-}
-
-fn words_of(registers: Registers) -> SixWords
-    ensures { result ≡ six_of registers }
-{
-    SixWords {
-        a1: registers.a1,
-        a0: registers.a0,
-        b1: registers.b1,
-        b0: registers.b0,
-        c1: registers.c1,
-        c0: registers.c0,
-    }
-}
-
-pub fn make(cipher: &mut [u8], key: &[u8], value: &[u8]) -> u8
-    ensures { outcome result cipher.new ≡ cipher_make cipher.old key.now value.now }
-{
-    let made = trivium_seek::make(key, value);
-    let refusal = made.refusal;
-    if refusal != refusals::ACCEPTED {
-        return refusal;
-    }
+    let registers = trivium_seek::make(key, value)?;
     if cipher.len() < CIPHER_BYTES {
-        return refusals::NO_ROOM;
+        return Err(Refusal::NoRoom);
     }
-    record_bytes::write_six_words(cipher, words_of(made.registers));
-    refusals::ACCEPTED
+    record_bytes::write_six_words(cipher, registers.words);
+    Ok(())
 }
 
-pub fn encipher(cipher: &mut [u8], input: &[u8], output: &mut [u8]) -> u8
-    ensures { ciphered cipher.new output.new result
+pub fn encipher(cipher: &mut [u8], input: &[u8], output: &mut [u8]) -> Result<(), Refusal>
+    ensures { ciphered cipher.new output.new (number_in result)
         ≡ cipher_encipher cipher.old input.now output.old }
 {
     if cipher.len() != CIPHER_BYTES {
-        return refusals::NOT_A_CIPHER;
+        return Err(Refusal::NotACipher);
     }
-    let registers = registers_of(record_bytes::six_words_in(cipher));
-    let done = registers.encipher(input, output);
-    let refusal = done.refusal;
-    if refusal != refusals::ACCEPTED {
-        return refusal;
-    }
-    record_bytes::write_six_words(cipher, words_of(done.next));
-    refusals::ACCEPTED
+    let registers = Registers {
+        words: record_bytes::six_words_in(cipher),
+    };
+    let next = registers.encipher(input, output)?;
+    record_bytes::write_six_words(cipher, next.words);
+    Ok(())
 }

@@ -16,6 +16,11 @@ make_faults cipher key iv = (length key unlike cipher.key_bytes says bad_key) �
 abbrev pub encipher_faults : List ℕ → List ℕ → List Fault
 encipher_faults input output = (length input over length output says no_room) ∷ []
 
+-- The bytes under the keystream where they stand, and the record behind them.
+abbrev pub covers_by : {Record : Type 0} → (Record → Keystream) → (Record → ℕ → Record)
+    → Record → List ℕ → Outcome Record ℕ
+covers_by stream moved r bytes = outcome (moved r (length bytes)) (enciphered (stream r) bytes)
+
 -- The bytes under the keystream, at the front of the output. A record stands at some place of its keystream, and can be
 -- moved on by so many bytes; the answer holds a number and a record.
 abbrev pub enciphers_by : {Record Answer : Type 0} → (ℕ → Record → Answer) → (Record → Keystream)

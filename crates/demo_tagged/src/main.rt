@@ -6,23 +6,5 @@ use pack::Kind;
 use std::io;
 
 fn main(rt: HostRuntime) -> io::Result<()> {
-    let sound = demo_sound::choir();
-    let keys = demo_sound::KEYS;
-    let rack_keys = demo_sound::RACK_KEYS;
-    let deal_keys = demo_sound::DEAL_KEYS;
-    let mut file = demo_sound::room();
-    let sealed = sealer::seal(
-        Kind::Triad,
-        b"Dealer",
-        keys,
-        rack_keys,
-        deal_keys,
-        3,
-        b"demo value 1",
-        &sound,
-        &[2048, 8192],
-        &mut file,
-    );
-    let length = sealed.length;
-    rt.write_all(octets::slice(&file, 0, length))
+    demo_sound::write_pack(&rt, Kind::Triad, b"Dealer", 3, b"demo value 1")
 }

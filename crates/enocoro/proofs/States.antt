@@ -1,22 +1,23 @@
 -- How states move: a state of bytes stays one, packed and taken apart again it is the same, and rounds add up.
-use mathlib.Core.{Path.◌≡◌, Path.refl, Path.sym, Path.ap, Path.ap₂, Path.◌∙◌, List.List, List.[], List.◌∷◌}
+use mathlib.Core.{Path.◌≡◌, Path.refl, Path.sym, Path.ap, Path.◌∙◌, List.List, List.[], List.◌∷◌}
 use mathlib.Core.List.{◌++◌}
-use Prim.Native.Nat.{ℕ, zero, suc, ◌+◌, ◌-◌, ◌%◌, ◌^◌, ◌<◌, ◌≤◌}
+use Prim.Native.Nat.{ℕ, zero, suc, ◌+◌, ◌^◌, ◌<◌, ◌≤◌}
 use native.Mathlib.Nat.{mod-eq_of_lt, zero-add, suc-add}
 use native.Mathlib.Omega.{arith}
 use lib.Bits.{bit_xor, xor_lt}
-use lib.ListN.{length, get_or, take, drop, length-append, length-take}
+use lib.ListN.{length, take, length-append, length-take}
 use lib.Seq.{take_all}
-use Rattle.octets.specs.{Buffers.slice, Digits.digits, Digits.number, Digits.number_at, Stream.Keystream, Stream.from}
+use Rattle.octets.specs.{Buffers.slice, Digits.digits, Digits.number_at, Stream.from}
+use Rattle.octets.proofs.LowFirst.{below_append}
 use Rattle.octets.proofs.Numbers.{Below, below_take, digits_read}
 use Rattle.octets.proofs.{Slices.slice_add, Streams.OfBytes}
 use Rattle.sbox.specs.{Field.twice, S8.s8}
 use Rattle.sbox.proofs.Tables.{s8_below, twice_below}
-use Rattle.enocoro.specs.State.{State, ◌⟨◌⟩, u0, u1, new_a0, new_a1, new_b, next, rounds, loaded, constants, counted}
+use Rattle.enocoro.specs.State.{State, ◌⟨◌⟩, u0, u1, next, rounds, loaded, constants, counted}
 use Rattle.enocoro.specs.State.{blanks, warm_up, started}
 use Rattle.enocoro.specs.{Calls.skipping, Keystream.keystream, Keystream.enocoro, Record.state, Record.packed}
 use Rattle.enocoro.specs.declared.Registers.{Registers}
-use Rattle.enocoro.proofs.Words.{◌and◌, nothing, below_append, below_digits, below_each, word_digits}
+use Rattle.enocoro.proofs.Words.{◌and◌, nothing, below_digits, below_each, word_digits}
 
 -- ---- the two bytes a stay bytes, whatever b is
 
@@ -140,10 +141,6 @@ pub blanks_none : (n ctr : ℕ) (s : State) → n ≡ 0 → blanks n ctr s ≡ s
 unfolding blanks
 blanks_none zero ctr s e = refl
 blanks_none (suc n) ctr s e = absurd (omega arith)
-
--- so many, from where the counter stands
-pub blanks_same : (s : State) {m n now ctr : ℕ} → m ≡ n → now ≡ ctr → blanks m now s ≡ blanks n ctr s
-blanks_same s e f = ap₂ (λ (k c : ℕ). blanks k c s) e f
 
 -- ---- packed, and taken apart again
 

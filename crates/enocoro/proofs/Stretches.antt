@@ -18,7 +18,7 @@ pub stretch_done : (r : Registers) (bytes w : List ℕ) (a0 a1 : ℕ) {s : State
     {new : Registers} → s ≡ state r → windowed w (256 - i) a0 a1 ≡ rounds i s
     → new ≡ packed (windowed w at a0 a1) → at ≡ 256 - i → i ≡ length bytes
     → left ≡ paste bytes 0 (enciphered (keystream s) bytes) i → outcome new left ≡ covering r bytes
-unfolding covering skipping
+unfolding skipping
 stretch_done r bytes w a0 a1 {s} from-r here taken place whole done =
     let registers =
     taken ∙ ap (λ (k : ℕ). packed (windowed w k a0 a1)) place ∙ ap packed here
@@ -44,13 +44,15 @@ module _ (r : Registers) (bytes : List ℕ) where
       length_enciphered (ahead r) (take n bytes) ∙ length-take-le n bytes h in
       simp (length-append, length-drop) (omega arith)
 
-  -- one stretch more; `n` is what the code says of its length
-  pub stretch_more : (at size n : ℕ) {m : ℕ} {left part : List ℕ} {now new : Registers} → now ≡ skipping r at
-      → left ≡ front_covered r bytes at → outcome new part ≡ covering now (slice left at n)
+  -- One stretch more, up to `m`. The code has come to `at`, and `n` is what it says of the stretch's length.
+  pub stretch_more : (at size n : ℕ) {here m : ℕ} {left part : List ℕ} {now new : Registers} → here ≡ at
+      → now ≡ skipping r here → left ≡ front_covered r bytes here → outcome new part ≡ covering now (slice left at n)
       → n ≡ size → m ≡ at + size → at + size ≤ length bytes
       → (new ≡ skipping r m) × (take at left ++ (part ++ drop n (drop at left)) ≡ front_covered r bytes m)
-  unfolding covering
-  stretch_more at size n {m} {left} {part} {now} {new} gone done covered same on room =
+  stretch_more at size n {m = m} {left = left} {part = part} {now = now} {new = new} come moved covered_there covered same
+      on room =
+      let gone = moved ∙ ap (skipping r) come in
+      let done = covered_there ∙ ap (front_covered r bytes) come in
       let k : Keystream = ahead r in
       let front : List ℕ = enciphered k (take at bytes) in
       let some : List ℕ = slice bytes at size in
@@ -79,7 +81,6 @@ module _ (r : Registers) (bytes : List ℕ) where
   -- all stretches
   pub cover_done : {n : ℕ} {left : List ℕ} {new : Registers} → new ≡ skipping r n → left ≡ front_covered r bytes n
       → n ≡ length bytes → outcome new left ≡ covering r bytes
-  unfolding covering
   cover_done {n} gone done whole =
       let all =
       done
@@ -93,7 +94,6 @@ module _ (r : Registers) (bytes : List ℕ) where
 -- behind bytes that nobody reads
 pub gone_over : (r : Registers) (bytes : List ℕ) {n : ℕ} {part : List ℕ} {new : Registers}
     → outcome new part ≡ covering r bytes → n ≡ length bytes → new ≡ skipping r n
-unfolding covering
 gone_over r bytes covered long = ap (λ (o : Outcome Registers ℕ). o.answer) covered ∙ ap (skipping r) (sym long)
 
 pub one_round : (r : Registers) {byte n : ℕ} {new : Registers} → r.a1 < 256 → byte ≡ r.a1 → new ≡ skipping r n → n ≡ 1

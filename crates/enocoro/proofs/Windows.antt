@@ -9,34 +9,13 @@ use lib.ListN.{length, get_or, set, take, drop}
 use lib.Seq.{drop-cons, drop-drop, drop_at, take_at, take-set-lt, drop-set-add, length-take-le}
 use Rattle.octets.specs.{Buffers.slice, Buffers.placed, Buffers.put, Digits.digits, Digits.number, Digits.number_at}
 use Rattle.octets.specs.Digits.{word}
-use Rattle.octets.proofs.{Buffers.length_put, Buffers.put_placed, Buffers.puts_on, Numbers.Below, Numbers.number_read}
+use Rattle.octets.proofs.{Buffers.put_placed, Buffers.puts_on, Numbers.Below, Numbers.number_read}
 use Rattle.octets.proofs.Slices.{length_slice, slice_front, slice_rest, slice_read, neighbours}
-use Rattle.sbox.specs.{Field.twice, S8.s8}
+use Rattle.sbox.specs.{Field.twice}
 use Rattle.enocoro.specs.{Keystream.keystream, Record.state, Record.packed, State.State, State.next}
 use Rattle.enocoro.specs.{State.rounds, State.counted, State.blanks, Window.mixing, Window.windowed}
 use Rattle.enocoro.specs.{declared.Pair.Pair, declared.Registers.Registers}
 use Rattle.enocoro.proofs.States.{rounds_more}
-
--- ---- the two bytes a
-
--- The bytes that the code looks up are given apart from which they are, so that each is a fact about numbers.
-pub mixed_right : (a0 a1 b2 b7 b16 b29 : ℕ) {p2 p7 p16 p29 s2 s7 s16 s29 t : ℕ}
-    → s2 ≡ s8 p2 → s7 ≡ s8 p7 → s16 ≡ s8 p16 → s29 ≡ s8 p29 → t ≡ twice (bit_xor a1 s7)
-    → p2 ≡ b2 → p7 ≡ b7 → p16 ≡ b16 → p29 ≡ b29
-    → ◌≡◌ {A = Pair}
-    (record {
-      a0 = bit_xor (bit_xor (bit_xor a0 s2) (bit_xor a1 s7)) s16;
-      a1 = bit_xor (bit_xor (bit_xor a0 s2) t) s29;
-    })
-    (mixing a0 a1 b2 b7 b16 b29)
-mixed_right a0 a1 b2 b7 b16 b29 e2 e7 e16 e29 et f2 f7 f16 f29 =
-    let d2 = e2 ∙ ap s8 f2 in
-    let d7 = e7 ∙ ap s8 f7 in
-    λ i.
-    record {
-      a0 = bit_xor (bit_xor (bit_xor a0 (d2 i)) (bit_xor a1 (d7 i))) ((e16 ∙ ap s8 f16) i);
-      a1 = bit_xor (bit_xor (bit_xor a0 (d2 i)) ((et ∙ ap (λ (s : ℕ). twice (bit_xor a1 s)) d7) i)) ((e29 ∙ ap s8 f29) i);
-    }
 
 -- ---- what is done to a window
 
@@ -162,7 +141,7 @@ pub laid : (r : Registers) (d : List ℕ) {e f g h : List ℕ} {p0 p1 p2 p3 : �
     → r.a0 < 256 → r.a1 < 256 → e ≡ put d p0 (digits 256 8 r.b0)
     → f ≡ put e p1 (digits 256 8 r.b1) → g ≡ put f p2 (digits 256 8 r.b2) → h ≡ put g p3 (digits 256 8 r.b3)
     → p0 ≡ 256 → p1 ≡ 264 → p2 ≡ 272 → p3 ≡ 280
-    → (length h ≡ 288) × (windowed h 256 r.a0 r.a1 ≡ state r)
+    → windowed h 256 r.a0 r.a1 ≡ state r
 unfolding state digits windowed
 laid r d long small0 small1 e0 e1 e2 e3 q0 q1 q2 q3 =
     let ds : ℕ → List ℕ = digits 256 8 in
@@ -170,15 +149,13 @@ laid r d long small0 small1 e0 e1 e2 e3 q0 q1 q2 q3 =
     let two = e1 ∙ puts_on d 256 (ds r.b0) (ds r.b1) one q1 (omega arith) in
     let three = e2 ∙ puts_on d 256 (ds r.b0 ++ ds r.b1) (ds r.b2) two q2 (omega arith) in
     let all = e3 ∙ puts_on d 256 (ds r.b0 ++ ds r.b1 ++ ds r.b2) (ds r.b3) three q3 (omega arith) in
-    let run : List ℕ = ds r.b0 ++ ds r.b1 ++ ds r.b2 ++ ds r.b3 in (
-      ap length all ∙ length_put d 256 run ∙ long,
-      (λ i.
-          record {
-            a0 = sym (mod-eq_of_lt small0) i;
-            a1 = sym (mod-eq_of_lt small1) i;
-            b = (ap (λ (l : List ℕ). slice l 256 32) all ∙ slice_put d 256 32 run refl (omega arith)) i;
-          }),
-    )
+    let run : List ℕ = ds r.b0 ++ ds r.b1 ++ ds r.b2 ++ ds r.b3 in
+    λ i.
+    record {
+      a0 = sym (mod-eq_of_lt small0) i;
+      a1 = sym (mod-eq_of_lt small1) i;
+      b = (ap (λ (l : List ℕ). slice l 256 32) all ∙ slice_put d 256 32 run refl (omega arith)) i;
+    }
 
 -- ---- round after round
 

@@ -1,5 +1,5 @@
 -- Runs of bytes, and the eight in a word.
-use mathlib.Core.{Path.◌≡◌, Path.◌∙◌, List.List, List.[], List.◌∷◌, List.◌++◌}
+use mathlib.Core.{Path.◌≡◌, Path.◌∙◌, List.List, List.[], List.◌∷◌}
 use Prim.Native.Nat.{ℕ, zero, suc, ◌^◌, ◌<◌}
 use native.Mathlib.{Nat.mod-eq_of_lt, Omega.arith}
 use Rattle.octets.specs.Digits.{number, digits}
@@ -21,11 +21,6 @@ pub below_each : {xs : List ℕ} → EachByte xs → Below 256 xs
 below_each nothing i = omega arith
 below_each (h and hs) zero = h
 below_each (h and hs) (suc i) = below_each hs i
-
-pub below_append : (xs ys : List ℕ) → Below 256 xs → Below 256 ys → Below 256 (xs ++ ys)
-below_append [] ys hx hy i = hy i
-below_append (x ∷ xs) ys hx hy zero = hx 0
-below_append (x ∷ xs) ys hx hy (suc i) = below_append xs ys (λ j. hx (suc j)) hy i
 
 -- a word's eight bytes make the word
 pub word_digits : (w : ℕ) → w < 2 ^ 64 → number 256 (digits 256 8 w) ≡ w

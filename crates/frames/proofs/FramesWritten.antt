@@ -5,6 +5,9 @@ use native.Mathlib.Omega.{arith}
 use lib.ListN.{length, length-append}
 use Rattle.octets.specs.{Buffers.placed, Buffers.put, Digits.digits, Rows.row}
 use Rattle.octets.proofs.{Buffers.put_placed, Buffers.goes_on, Rows.length_row, Rows.row_written}
+use denote.Enum.Declared.{tag_of}
+use Rattle.frames.specs.{contracts.FrameKind.the_type, Told.kind_number, declared.FrameKind.FrameKind}
+use Rattle.frames.specs.declared.FrameKind.TheVariants as the_kind
 use Rattle.frames.specs.Frames.{opening, block, holds, too_long, bytes}
 
 -- ---- short frames
@@ -13,6 +16,13 @@ use Rattle.frames.specs.Frames.{opening, block, holds, too_long, bytes}
 pub with_number : {A : Type 0} (written : ℕ → A) (number : ℕ) {x : A} {n : ℕ} → x ≡ written n → n ≡ number
     → x ≡ written number
 with_number written number e same = e ∙ ap written same
+
+-- the first byte that the code writes for a kind
+pub first_written : (kind : FrameKind) → tag_of the_type kind + 1 ≡ kind_number kind
+first_written the_kind.Opening = refl
+first_written the_kind.Block = refl
+first_written the_kind.Holds = refl
+first_written the_kind.TooLong = refl
 
 -- a first byte, a session, and a number of so many bytes
 abbrev pub short : ℕ → ℕ → ℕ → ℕ → List ℕ

@@ -7,7 +7,7 @@ use Rattle.octets.specs.Stream.{Cipher}
 use Rattle.refusals.specs.Rules.{AllRight}
 use Rattle.pack.specs.Faults.{faults_from_key, faults_from_samples, file_faults}
 use Rattle.pack.specs.Places.{byte_at, name_count, key_place, key_number, value_place, sample_count, body_place, loop_place}
-use Rattle.pack.specs.Places.{loop_count, loops_place, tag_place, tag_end}
+use Rattle.pack.specs.Places.{loop_count, tag_place, tag_end}
 use Rattle.pack.proofs.AcceptedFiles.{key_right, sample_right, loop_right, tag_right}
 
 pub record Shown (cipher : Cipher) (file : List ℕ) : Type 0 where

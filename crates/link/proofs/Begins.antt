@@ -15,7 +15,7 @@ use Rattle.names.specs.Naming.{key_bytes, pair_bytes}
 use Rattle.receiver.proofs.Theorems as receiver
 use Rattle.sender.proofs.Theorems as sender
 use Rattle.sender.specs.Sender.{last_session, agreed, begun, beginning}
-use Rattle.sender.specs.{declared.SenderAnswer.SenderAnswer, declared.Phase.TheVariants.Opening}
+use Rattle.sender.specs.{Answers.SenderAnswer, declared.Phase.TheVariants.Opening}
 use Rattle.link.specs.World.{World, fresh, with_begun, after_begin, held_bytes}
 use Rattle.link.proofs.Invariant.{Up, an_opening, a_block, Down, a_count, a_no, Inv, sender_in_rule_lem}
 

@@ -11,7 +11,7 @@ use Rattle.refusals.proofs.{Tests.by_cond, ByTurns.finally, ByTurns.keeps, ByTur
 use Rattle.blocks.specs.Blocks.{blocks}
 use Rattle.frames.specs.Frames.{holds, too_long, bytes}
 use Rattle.sender.specs.{declared.Phase.Phase, declared.Reason.TheVariants.TooLong, declared.Sender.Sender}
-use Rattle.sender.specs.{declared.SenderAnswer.SenderAnswer}
+use Rattle.sender.specs.{Answers.SenderAnswer}
 use Rattle.sender.specs.Sender.{in_phase, refused, agreed, is_under_way, news_count, knowing, hearing}
 use Rattle.sender.specs.declared.Phase.TheVariants.{Sending, Done, Refused}
 use Rattle.link.specs.{Demand3.Possible, Demand3.sound_of, World.World, World.with_heard, World.after_hear}

@@ -17,7 +17,7 @@ use Rattle.blocks.proofs.Covering.{length_run}
 use Rattle.frames.specs.Frames.{Frame, opening, holds, too_long, bytes, it}
 use Rattle.receiver.specs.Receiver.{answer_room, receive_faults, Effect, on_frame, Received, receiving}
 use Rattle.sender.specs.{declared.Phase.Phase, declared.Reason.TheVariants.TooLong, declared.Sender.Sender}
-use Rattle.sender.specs.{declared.SenderAnswer.SenderAnswer}
+use Rattle.sender.specs.{Answers.SenderAnswer}
 use Rattle.sender.specs.Sender.{in_phase, agreed, is_under_way, news_count, block_frame, due_in, sending, hear_faults, informed}
 use Rattle.sender.specs.Sender.{hearing}
 use Rattle.sender.specs.declared.Phase.TheVariants.{Opening, Sending, Done, Refused}

@@ -9,7 +9,7 @@ use Rattle.blocks.specs.Blocks.{blocks}
 use Rattle.frames.specs.Frames.{too_long, bytes}
 use Rattle.receiver.specs.{Receiver.answer_room, Receiver.Received, Receiver.receiving, Rules.receiver_in_rule}
 use Rattle.sender.specs.{Rules.sender_in_rule, declared.Phase.TheVariants.Done, declared.Phase.TheVariants.Refused}
-use Rattle.sender.specs.{declared.Reason.TheVariants.TooLong, declared.SenderAnswer.SenderAnswer, declared.Sent.Sent}
+use Rattle.sender.specs.{declared.Reason.TheVariants.TooLong, Answers.SenderAnswer, Answers.Sent}
 use Rattle.sender.specs.Sender.{beginning, due_in, sending, hearing}
 use Rattle.link.specs.World.{World, sent_frame, reply_frame, after_begin, after_send, after_receive, after_hear}
 use Rattle.link.specs.World.{Reach, held_bytes, UnderWay}

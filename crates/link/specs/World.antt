@@ -8,7 +8,7 @@ use Rattle.blocks.specs.Blocks.{blocks, place}
 use Rattle.names.specs.Naming.{key_bytes, pair_bytes}
 use Rattle.receiver.specs.{Receiver.Received, Receiver.making_receiver, Receiver.receiving, declared.Receiver.Receiver}
 use Rattle.sender.specs.{declared.Phase.TheVariants.Opening, declared.Phase.TheVariants.Sending}
-use Rattle.sender.specs.{declared.Sender.Sender, declared.SenderAnswer.SenderAnswer, declared.Sent.Sent}
+use Rattle.sender.specs.{declared.Sender.Sender, Answers.SenderAnswer, Answers.Sent}
 use Rattle.sender.specs.Sender.{is_under_way, making_sender, beginning, sending, hearing}
 
 pub record World : Type 0 where

@@ -11,16 +11,8 @@ ghost use Rattle.samples.specs.Words.{swapped};
 pub fn copy(d: &mut [u8], at: usize, run: &[u8])
     ensures { d.new ≡ put d.old at run.now }
 {
-    if d.len() < at {
-        return;
-    }
-    if d.len() - at < run.len() {
-        return;
-    }
-    let mut i = 0;
-    while i < run.len() {
-        d[at + i] = run[i];
-        i += 1;
+    if at <= d.len() && run.len() <= d.len() - at {
+        d[at..at + run.len()].copy_from_slice(run);
     }
 }
 
@@ -28,26 +20,21 @@ pub fn copy(d: &mut [u8], at: usize, run: &[u8])
 fn byte_above(value: u64, below: usize) -> u8
     ensures { result ≡ value / 256 ^ below % 256 }
 {
-    if 8 <= below {
-        return 0;
+    if below < 8 {
+        ((value >> (8 * below)) % 256) as u8
+    } else {
+        0
     }
-    ((value >> (8 * below)) % 256) as u8
 }
 
 // Writes the last n bytes of a number from `at`, the most significant first, if they have room there.
 pub fn write_number(d: &mut [u8], at: usize, n: usize, value: u64)
     ensures { d.new ≡ put d.old at (digits 256 n value) }
 {
-    if d.len() < at {
-        return;
-    }
-    if d.len() - at < n {
-        return;
-    }
-    let mut i = 0;
-    while i < n {
-        d[at + i] = byte_above(value, n - 1 - i);
-        i += 1;
+    if at <= d.len() && n <= d.len() - at {
+        for i in 0..n {
+            d[at + i] = byte_above(value, n - 1 - i);
+        }
     }
 }
 
@@ -56,17 +43,7 @@ pub fn write_number(d: &mut [u8], at: usize, n: usize, value: u64)
 pub fn write_low(d: &mut [u8], at: usize, word: u64)
     ensures { d.new ≡ put d.old at (digits 256 8 (swapped word)) }
 {
-    let bytes = [
-        (word % 256) as u8,
-        ((word >> 8) % 256) as u8,
-        ((word >> 16) % 256) as u8,
-        ((word >> 24) % 256) as u8,
-        ((word >> 32) % 256) as u8,
-        ((word >> 40) % 256) as u8,
-        ((word >> 48) % 256) as u8,
-        ((word >> 56) % 256) as u8,
-    ];
-    copy(d, at, &bytes);
+    copy(d, at, &word.to_le_bytes());
 }
 
 // Writes a word's eight bytes from `at`, the most significant first, if they have room there: one store, where eight bytes
@@ -74,7 +51,7 @@ pub fn write_low(d: &mut [u8], at: usize, word: u64)
 pub fn write_word(d: &mut [u8], at: usize, word: u64)
     ensures { d.new ≡ put d.old at (digits 256 8 word) }
 {
-    write_low(d, at, samples::swapped(word));
+    copy(d, at, &word.to_be_bytes());
 }
 
 // n bytes from `at` under the last n of a word of keystream, where they stand: read and written as one number.

@@ -8,10 +8,11 @@ use native.Mathlib.Nat.{pow-le-pow_right}
 use native.Mathlib.Omega.{arith}
 use lib.Arith.{digits_lt, digits_div, digits_mod, mod-mul}
 use lib.ListN.{length, get_or, take, drop, length-take}
-use lib.Seq.{get_or-drop, take-take}
+use lib.Seq.{get_or-drop, take-take, take_all}
+use Rattle.std.specs.Int.{from_be_bytes, to_be_bytes, w64}
 use Rattle.octets.specs.Buffers.{slice}
 use Rattle.octets.specs.Digits.{number, number_at, number_after, digits, bits_of, word}
-use Rattle.octets.proofs.Slices.{length_slice, slice_add}
+use Rattle.octets.proofs.Slices.{length_slice, slice_add, neighbours, slice_read}
 
 -- every element is below the bound
 abbrev pub Below : ℕ → List ℕ → Type 0
@@ -31,21 +32,6 @@ below_drop {bound} n xs b i = subst (λ (x : ℕ). x < bound) (sym (get_or-drop 
 
 pub below_slice : {bound : ℕ} (xs : List ℕ) (at n : ℕ) → Below bound xs → Below bound (slice xs at n)
 below_slice xs at n b = below_take n (drop at xs) (below_drop at xs b)
-
--- four elements next to each other
-pub record Four (bound : ℕ) (xs : List ℕ) (at : ℕ) : Type 0 where
-  pub first : get_or xs at 0 < bound
-  pub second : get_or xs (at + 1) 0 < bound
-  pub third : get_or xs (at + 2) 0 < bound
-  pub fourth : get_or xs (at + 3) 0 < bound
-
-pub below_four : {bound : ℕ} (xs : List ℕ) (at : ℕ) → Below bound xs → Four bound xs at
-below_four xs at b = record { first = b at; second = b (at + 1); third = b (at + 2); fourth = b (at + 3) }
-
--- four bytes, each scaled by its place, make their number
-pub four_scaled : (x y z w : ℕ) → x * 16777216 + y * 65536 + z * 256 + w ≡ number 256 (x ∷ y ∷ z ∷ w ∷ [])
-unfolding number_after
-four_scaled x y z w = omega arith
 
 pub after_append : (base before : ℕ) (xs ys : List ℕ)
     → number_after base before (xs ++ ys) ≡ number_after base (number_after base before xs) ys
@@ -218,3 +204,26 @@ pub word_read : (bytes : List ℕ) (at n : ℕ) {w : ℕ} → Below 256 bytes �
 word_read bytes at n b small e =
     let all = e ∙ number_read bytes at n b small in
     (all, rw all (number_at_below bytes at n b))
+
+-- ---- eight bytes as the library joins them
+
+joined : (bytes : List ℕ) → from_be_bytes w64 bytes ≡ number 256 (get_or bytes 0 0 ∷ neighbours bytes 0 1 7 0)
+unfolding number_after
+joined bytes = omega arith
+
+pub high_first : (bytes : List ℕ) → length bytes ≡ 8 → from_be_bytes w64 bytes ≡ number 256 bytes
+high_first bytes long =
+    joined bytes ∙ ap (number 256) (slice_read bytes 0 7 0 (omega arith) ∙ take_all 8 bytes (omega arith))
+
+-- a word of them
+pub word_whole : (bytes : List ℕ) → Below 256 bytes → length bytes ≡ 8 → word (number 256 bytes) ≡ number 256 bytes
+word_whole bytes b long =
+    mod-eq_of_lt (subst (λ (n : ℕ). number 256 bytes < 256 ^ n) long (number_below 256 bytes b))
+
+-- the library's bytes of a word
+pub bytes_of_word : (x : ℕ) → to_be_bytes w64 x ≡ digits 256 8 x
+unfolding digits
+bytes_of_word x = ap (λ (low : ℕ). take 7 (digits 256 8 x) ++ (low ∷ [])) whole
+  where
+    whole : x % 256 ≡ x / 1 % 256
+    whole = omega arith

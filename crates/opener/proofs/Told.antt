@@ -1,107 +1,98 @@
--- What a call that opens a file knows by what was told to one who has keys: a refusal is passed on, a later rule lacks
--- no byte, and of an accepted file the key section and the body stand where the answer says.
-use mathlib.Core.{Path.◌≡◌, Path.refl, Path.sym, Path.ap, Path.subst, Path.◌∙◌, Logic.◌≢◌, List.List, List.◌++◌}
-use Prim.Native.Nat.{ℕ, ◌+◌, ◌-◌, ◌*◌, ◌≤◌}
+-- What a call that opens a file knows by what was told to one who has keys: a flaw is passed on, a later rule lacks no
+-- byte, and of a file without a flaw the key section and the body stand where the answer says.
+use mathlib.Core.{Path.◌≡◌, Path.refl, Path.sym, Path.ap, Path.◌∙◌, Logic.◌≢◌, List.List, List.◌++◌}
+use Prim.Native.Nat.{ℕ, ◌+◌, ◌*◌, ◌≤◌}
 use native.Mathlib.Omega.{arith}
 use lib.ListN.{length}
+use Rattle.std.specs.Prelude.{Result, Ok, Err, IsOk}
 use Rattle.octets.specs.{Buffers.slice, Stream.Keystream, Stream.enciphered}
 use Rattle.octets.proofs.Slices.{length_slice}
-use Rattle.refusals.specs.{Numbers.accepted, Outcome.Outcome, Outcome.outcome}
-use Rattle.refusals.specs.Rules.{AllRight, Fault, first, Leaves, settled}
-use Rattle.refusals.specs.declared.Verdict.{Verdict}
+use Rattle.refusals.specs.{Numbers.accepted, Outcome.Outcome, Outcome.outcome, Answers.number_of, declared.Flaw.Flaw, declared.Refusal.Refusal}
+use Rattle.refusals.specs.Rules.{AllRight, Fault, first, settled, Verdict}
 use Rattle.refusals.proofs.Faults.{none_wrong, right_after, verdict_right}
-use Rattle.refusals.proofs.Settled.{done_if, settled_left, by_settled, first_here, first_later}
+use Rattle.refusals.proofs.{Answers.never_accepted, Settled.done_if, Settled.settled_left}
+use Rattle.refusals.proofs.Settled.{first_here, first_later}
 use Rattle.samples.specs.Words.{words_of}
+use Rattle.pack.specs.Answers.{Opened, opening_of}
+use Rattle.pack.specs.declared.Opened as code
 use Rattle.pack.specs.Calls.{refused_opening, accepted_opening, lacks_of, inspecting, inspecting_file}
-use Rattle.pack.specs.Ciphers.{cipher_in, Rings, ring_in}
+use Rattle.pack.specs.{Ciphers.cipher_in, Ciphers.ring_in, declared.Rings.Rings}
 use Rattle.pack.specs.Faults.{file_faults, keyed_faults}
-use Rattle.pack.specs.{Layout.key_named, declared.Opened.Opened}
+use Rattle.pack.specs.Layout.{key_named}
 use Rattle.pack.specs.Places.{key_place, key_number, value_place, sample_count, body_place, parts_of}
-use Rattle.pack.proofs.Theorems.{keyed_numbered, keyed_shown, inspect_refusal, inspecting_leaves}
-use Rattle.surveyor.proofs.Lacking.{lacking_so}
+use Rattle.pack.proofs.Answers.{ok_first, ok_done, err_first, err_lacks}
+use Rattle.pack.proofs.Theorems.{keyed_numbered, keyed_shown}
 use Rattle.inspector.proofs.Shown.{shown}
-use Rattle.bodies.specs.Bodies.{ready, beginning, beginning_from}
+use Rattle.chunks.specs.declared.Cipher.{Cipher}
+use Rattle.bodies.specs.Bodies.{Ready, ready, begun, beginning, beginning_from}
 
-module _ (r : Rings) (file : List ℕ) (told : Opened) (inspected : told ≡ inspecting_file r file) where
+module _ (r : Rings) (file : List ℕ) where
   abbrev faults : List Fault
   faults = keyed_faults (cipher_in file) (ring_in r file) file
-
-  pub found : told.refusal ≡ first faults
-  found = ap (λ (o : Opened). o.refusal) inspected ∙ inspect_refusal (cipher_in file) (ring_in r file) file
-
-  nothing_lacks : AllRight (file_faults (cipher_in file) file) → 0 ≡ lacks_of (cipher_in file) file
-  nothing_lacks good = ap (λ (v : Verdict). v.lacks) (verdict_right _ good)
 
   -- what a call leaves of its output and answers, if it is refused
   abbrev pub left_as : {A : Type 0} → List A → ℕ → Outcome Opened A
   left_as output number = outcome (refused_opening (lacks_of (cipher_in file) file) number) output
 
-  -- the file's own refusal, whatever rules come behind it
-  pub passed_on : {A : Type 0} (later : List Fault) (done : Outcome Opened A) (output : List A)
-      → told.refusal ≢ accepted
-      → outcome told output ≡ settled (faults ++ later) done (left_as output)
-  passed_on later done output refused =
-      ap (λ (o : Opened). outcome o output)
-      (subst (Leaves (λ o. o.refusal) (refused_opening (lacks_of (cipher_in file) file))) (sym inspected)
-      (inspecting_leaves (cipher_in file) (ring_in r file) file)
-      refused)
-      ∙ settled_left (faults ++ later) done (left_as output) _ refused
-      (first_here faults later (keyed_numbered (cipher_in file) (ring_in r file) file) _ refused found)
+  -- ---- a file with a flaw
 
-  -- what is lacking is told of any file, and nothing is of one that has no fault in itself
-  pub lacks_told : told.lacks ≡ lacks_of (cipher_in file) file
-  unfolding inspecting
-  lacks_told =
-      ap (λ (o : Opened). o.lacks) inspected
-      ∙ by_settled faults (accepted_opening (cipher_in file) file) (refused_opening (lacks_of (cipher_in file) file))
-      (λ (o : Opened). o.lacks ≡ lacks_of (cipher_in file) file)
-      (λ e.
-      nothing_lacks
-      (keyed_shown (cipher_in file) (ring_in r file) file
-      (none_wrong faults (keyed_numbered (cipher_in file) (ring_in r file) file) e)
-      ).0)
-      (λ n e no. refl)
+  module _ (flaw : Flaw) (told : opening_of (Err flaw) ≡ inspecting_file r file) where
+    pub flaw_first : number_of flaw.refusal ≡ first faults
+    unfolding inspecting
+    flaw_first = err_first faults (accepted_opening (cipher_in file) file) (lacks_of (cipher_in file) file) refl (Err flaw) told refl
 
-  -- ---- an accepted file
+    -- it is passed on, whatever rules come behind it
+    pub flaw_passed : {A : Type 0} (later : List Fault) (done : Outcome Opened A) (output : List A)
+        → outcome (opening_of (Err flaw)) output ≡ settled (faults ++ later) done (left_as output)
+    unfolding inspecting
+    flaw_passed later done output =
+        let never = never_accepted flaw.refusal in
+        ap (λ (n : ℕ). outcome (refused_opening n (number_of flaw.refusal)) output)
+        (err_lacks faults (accepted_opening (cipher_in file) file) (lacks_of (cipher_in file) file) refl (Err flaw) told refl)
+        ∙ settled_left (faults ++ later) done (left_as output) _ never
+        (first_here faults later (keyed_numbered (cipher_in file) (ring_in r file) file) _ never flaw_first)
 
-  module _ (yes : told.refusal ≡ accepted) where
+  -- ---- a file without one
+
+  module _ (opened : code.Opened) (told : opening_of (Ok opened) ≡ inspecting_file r file) where
+    pub none_first : accepted ≡ first faults
+    unfolding inspecting
+    none_first = ok_first faults (accepted_opening (cipher_in file) file) (lacks_of (cipher_in file) file) refl (Ok opened) told refl
+
     pub all_right : AllRight faults
-    all_right = none_wrong _ (keyed_numbered (cipher_in file) (ring_in r file) file) (sym found ∙ yes)
+    all_right = none_wrong faults (keyed_numbered (cipher_in file) (ring_in r file) file) (sym none_first)
 
-    pub right : AllRight (file_faults (cipher_in file) file)
+    right : AllRight (file_faults (cipher_in file) file)
     right = (keyed_shown (cipher_in file) (ring_in r file) file all_right).0
 
-    pub answered : told ≡ accepted_opening (cipher_in file) file
+    pub answered : opening_of (Ok opened) ≡ accepted_opening (cipher_in file) file
     unfolding inspecting
-    answered = inspected ∙ sym (done_if _ _ _ all_right)
+    answered = ok_done faults (accepted_opening (cipher_in file) file) (lacks_of (cipher_in file) file) refl (Ok opened) told refl
 
-    -- a later rule that is broken, number and all; `lacks` is what the code says is lacking
+    -- a later rule that is broken: the file lacks nothing
     pub refused_later : {A : Type 0} (later : List Fault) (done : Outcome Opened A) (output : List A) (number : ℕ)
-        {o : Opened} {lacks : ℕ}
-        → o ≡ refused_opening lacks number
-        → lacks ≡ 0 → number ≢ accepted → number ≡ first later
-        → outcome o output ≡ settled (faults ++ later) done (left_as output)
-    refused_later later done output number {o} {lacks} e nothing numbered broken =
-        let none = nothing_lacks right in
-        ap (λ (a : Opened). outcome a output)
-        (lacking_so o lacks number e (lacks_of (cipher_in file) file) (omega arith))
+        → number ≢ accepted → number ≡ first later
+        → outcome (refused_opening 0 number) output ≡ settled (faults ++ later) done (left_as output)
+    refused_later later done output number numbered broken =
+        ap (λ (n : ℕ). outcome (refused_opening n number) output) (ap (λ (v : Verdict). v.lacks) (verdict_right _ right))
         ∙ settled_left (faults ++ later) done (left_as output) number numbered
-        (broken
-        ∙ first_later faults later (keyed_numbered (cipher_in file) (ring_in r file) file) (sym yes ∙ found))
+        (broken ∙ first_later faults later (keyed_numbered (cipher_in file) (ring_in r file) file) none_first)
 
     -- and with none broken the call is done
-    pub none_broken : {A : Type 0} (later : List Fault) (done : Outcome Opened A) (output : List A) → AllRight later
-        → done ≡ settled (faults ++ later) done (left_as output)
-    none_broken later done output h =
-        done_if (faults ++ later) done (left_as output) (right_after faults later all_right h)
+    pub none_broken : {A : Type 0} (later : List Fault) (written output : List A) → AllRight later
+        → outcome (opening_of (Ok opened)) written
+        ≡ settled (faults ++ later) (outcome (accepted_opening (cipher_in file) file) written) (left_as output)
+    none_broken later written output h =
+        ap (λ (o : Opened). outcome o written) answered
+        ∙ done_if (faults ++ later) _ (left_as output) (right_after faults later all_right h)
 
     -- where its key section and its body stand, and what it counts
     pub record Known : Type 0 where
-      pub value : told.value_at ≡ key_place file + 2
-      pub loops : told.loops_at ≡ body_place (cipher_in file) file + 2 * sample_count (cipher_in file) file + 1
-      pub samples : told.samples ≡ sample_count (cipher_in file) file
-      pub most : told.samples ≤ 16384
-      pub there : told.loops_at ≤ length file
+      pub value : opened.value_at ≡ key_place file + 2
+      pub loops : opened.loops_at ≡ body_place (cipher_in file) file + 2 * sample_count (cipher_in file) file + 1
+      pub samples : opened.samples ≡ sample_count (cipher_in file) file
+      pub most : opened.samples ≤ 16384
+      pub there : opened.loops_at ≤ length file
 
     pub known : Known
     known =
@@ -116,8 +107,8 @@ module _ (r : Rings) (file : List ℕ) (told : Opened) (inspected : told ≡ ins
           there = omega (arith, loops, k.tag, k.end);
         }
 
-    -- the cipher that begins there is the one of the file's samples
-    begins : beginning_from r file (key_place file)
+    -- the cipher that begins at its key section is the one of its samples
+    pub begins : beginning_from r file (key_place file)
         ≡ ready accepted
         ((cipher_in file).stream (key_named (ring_in r file) (key_number file))
         (slice file (value_place file) (cipher_in file).value_bytes))
@@ -128,13 +119,15 @@ module _ (r : Rings) (file : List ℕ) (told : Opened) (inspected : told ≡ ins
         (omega (arith, k.body, k.loop, k.tag, k.end)) in
         sym (done_if _ _ _ (omega (arith, k.number), (long, tt)))
 
-    -- so what was read of the body under it are these samples
-    pub deciphered : (place count : ℕ) {number at : ℕ} {k : Keystream} {body : List ℕ}
-        → ready number k ≡ beginning_from r file at
-        → body ≡ slice file place count → at ≡ key_place file → place ≡ body_place (cipher_in file) file
-        → count ≡ 2 * sample_count (cipher_in file) file
-        → words_of (enciphered k body) ≡ (parts_of (cipher_in file) (ring_in r file) file).samples
+    -- so what is read of the body under it are these samples
+    pub deciphered : (stream : Keystream) (body : List ℕ) → ready accepted stream ≡ beginning_from r file (key_place file)
+        → body ≡ slice file (body_place (cipher_in file) file) (2 * sample_count (cipher_in file) file)
+        → words_of (enciphered stream body) ≡ (parts_of (cipher_in file) (ring_in r file) file).samples
     unfolding parts_of
-    deciphered place count begun b at there all =
-        let under = begun ∙ ap (beginning_from r file) at ∙ begins in
-        (λ i. words_of (enciphered (under i).stream ((b ∙ (λ j. slice file (there j) (all j))) i)))
+    deciphered stream body begun there =
+        λ i. words_of (enciphered ((begun ∙ begins) i).stream (there i))
+
+-- a cipher that begins isn't refused
+pub ok_begun : (result : Result Cipher Refusal) (stream : Keystream) → begun result ≡ ready accepted stream → IsOk result
+ok_begun (Ok cipher) stream e = refl
+ok_begun (Err refusal) stream e = absurd (never_accepted refusal (ap (λ (r : Ready). r.refusal) e))

@@ -5,7 +5,7 @@ use Prim.Native.Nat.{ℕ, suc, ◌+◌, ◌*◌, ◌/◌, ◌%◌, ◌^◌}
 use mathlib.Core.List.{List, [], ◌∷◌, ◌++◌, append_assoc}
 use mathlib.Core.Path.{◌≡◌, refl, sym, ap, ap₂, ◌∙◌}
 use native.Mathlib.{Nat.mod-mod, Omega.arith}
-use lib.{ListN.length, ListN.take, ListN.drop, ListN.length-append, ListN.length-drop, Seq.take_all, Seq.take_at}
+use lib.{ListN.length, ListN.take, ListN.drop, ListN.length-drop, Seq.take_all, Seq.take_at}
 use Rattle.octets.specs.{Buffers.slice, Digits.number_at, Digits.digits}
 use Rattle.octets.specs.{Rows.row, Rows.row_length, Rows.numbers_at, Stream.Cipher, Stream.Keystream, Stream.enciphered}
 use Rattle.octets.proofs.Numbers.{Below, below_slice, digits_same}

@@ -1,7 +1,7 @@
 -- What a file that breaks off is told is what is missing: from the file with more bytes behind it, it parts where it
 -- breaks off; and a front of an accepted file lacks only what it is asked to have.
 use mathlib.Core.{Path.◌≡◌, Path.refl, Path.sym, Path.ap, Path.ap₂, Path.subst, Path.◌∙◌, Logic.◌≢◌}
-use mathlib.Core.Logic.{◌⊎◌, inl, inr, ⊎_elim}
+use mathlib.Core.Logic.{inl, inr, ⊎_elim}
 use mathlib.Core.{Bool.Bool, Bool.true, Bool.false, Bool.cond, List.List, List.[], List.◌∷◌, List.◌++◌}
 use mathlib.Core.List.{append-nil}
 use Prim.Native.Nat.{ℕ, ◌+◌, ◌-◌, ◌<◌, ◌≤◌}
@@ -12,7 +12,7 @@ use lib.ListN.{length, take, drop, length-append, take-append-drop}
 use Rattle.octets.specs.Stream.{Cipher}
 use Rattle.refusals.specs.{Numbers.accepted, Numbers.cut_in_name, Numbers.cut_in_loops, Outcome.Outcome, Outcome.outcome}
 use Rattle.refusals.specs.Rules.{Fault, AllRight, first, verdict_of, verdict, reason}
-use Rattle.refusals.specs.declared.Verdict.{Verdict}
+use Rattle.refusals.specs.Rules.{Verdict}
 use Rattle.refusals.proofs.Faults.{none_wrong, right_both, first_append, verdict_right, verdict_at, verdict_from}
 use Rattle.refusals.proofs.Faults.{by_verdict}
 use Rattle.refusals.proofs.Settled.{by_settled, settled_left, first_here}
@@ -21,10 +21,10 @@ use Rattle.enocoro.specs.Keystream.{enocoro}
 use Rattle.triad.specs.Tag.{triad}
 use Rattle.pack.specs.Calls.{refused_opening, lacks_of, surveying, opening_pack}
 use Rattle.pack.specs.Ciphers.{cipher_in}
-use Rattle.pack.specs.Cuts.{Section, sections, cut_at, FourCut, CutNumber, CutsLack, refused_so, Cuts}
+use Rattle.pack.specs.Cuts.{Section, sections, cut_at, CutNumber, CutsLack, refused_so, Cuts}
 use Rattle.pack.specs.Faults.{faults_from_samples, faults_from_key, file_faults, keyed_faults, room_faults, open_faults}
 use Rattle.pack.specs.Places.{sample_count}
-use Rattle.pack.specs.declared.Opened.{Opened}
+use Rattle.pack.specs.Answers.{Opened}
 use Rattle.pack.specs.Layout.{tag_length}
 use Rattle.pack.proofs.Growing.{asked, Parting, cut, other, files_grown, parting, only_asked}
 use Rattle.pack.proofs.{Growing.cut_asked, AcceptedFiles.tag_right, Picking.Steady, Picking.cipher_steady}

@@ -10,14 +10,15 @@ use Rattle.refusals.specs.{Numbers.accepted, Outcome.Outcome, Outcome.outcome, R
 use Rattle.refusals.proofs.Faults.{all_right, none_wrong, right_both}
 use Rattle.refusals.proofs.Settled.{settled_number}
 use Rattle.samples.specs.Words.{NoLowest}
-use Rattle.pack.specs.{declared.Kind.Kind, declared.Opened.Opened, declared.Sealed.Sealed}
+use Rattle.pack.specs.{declared.Kind.Kind, Answers.Opened, Answers.Sealed}
 use Rattle.pack.specs.declared.Kind.TheVariants.{Trivium, Enocoro, Triad}
 use Rattle.pack.specs.Calls.{accepted_opening, opening_pack, sealing_pack, sealing_file}
-use Rattle.pack.specs.Ciphers.{cipher_of, kind_in, Rings, ring_for}
+use Rattle.pack.specs.Ciphers.{cipher_of, kind_in, ring_for}
+use Rattle.pack.specs.declared.Rings.{Rings}
 use Rattle.pack.specs.Demand2.{in_hand, OpenedTo, sealed_to, plain_in, LaidUnder, Demand2}
 use Rattle.pack.specs.Faults.{faults_from_samples, faults_from_key, file_faults, keyed_faults, room_faults, open_faults}
 use Rattle.pack.specs.Faults.{seal_faults}
-use Rattle.pack.specs.Layout.{Parts, parts, Within, LaidFrom, layout}
+use Rattle.pack.specs.Layout.{Parts, parts, layout}
 use Rattle.pack.specs.Places.{name_count, sample_count, loop_count, loops_place, plain_of, parts_of}
 use Rattle.pack.proofs.AcceptedFiles.{samples_counted, laid_from, parts_within}
 use Rattle.pack.proofs.Theorems.{within_sealed, opens, seals, sealed_opens, opened_seals, same_size, same_if}

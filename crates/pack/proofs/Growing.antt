@@ -4,7 +4,7 @@
 use mathlib.Core.{Path.◌≡◌, Path.refl, Path.sym, Path.ap, Path.subst, Path.◌∙◌}
 use mathlib.Core.Bool.{Bool, true, false, not}
 use mathlib.Core.List.{List, [], ◌∷◌, ◌++◌}
-use Prim.Native.Nat.{ℕ, suc, ◌+◌, ◌-◌, ◌*◌, ◌<◌, ◌≤◌, min}
+use Prim.Native.Nat.{ℕ, suc, ◌+◌, ◌-◌, ◌*◌, ◌<◌, ◌≤◌}
 use native.Mathlib.Omega.{arith}
 use borrow.Author.Tests.{ltb-true, ltb-false}
 use lib.{Dec.eqb, Dec.ltb, ListN.length, ListN.get_or-append}
@@ -13,7 +13,7 @@ use Rattle.octets.proofs.{Rows.numbers_front, Rows.length_equal, Slices.slice_fr
 use Rattle.refusals.specs.Numbers.{cut_in_key, cut_in_samples, cut_in_loops, bad_tag_section}
 use Rattle.refusals.specs.Rules.{Wrong, ◌over◌, ◌unlike◌, ◌ends_before◌, broken, Right, missing, Fault, ◌says◌}
 use Rattle.refusals.specs.Rules.{AllRight, lacking, verdict_of, verdict, reason}
-use Rattle.refusals.specs.declared.Verdict.{Verdict}
+use Rattle.refusals.specs.Rules.{Verdict}
 use Rattle.refusals.proofs.Faults.{right, fine, is_wrong, lacking_passes, verdict_right, verdict_at, verdict_from}
 use Rattle.refusals.proofs.Faults.{verdict_tail, by_verdict, reason_here, reason_later}
 use Rattle.pack.specs.Cuts.{Section, section, sections}

@@ -23,7 +23,7 @@ use Rattle.pack.specs.Layout.{tag_section, laid}
 use Rattle.pack.specs.Layout.{LaidFrom, layout}
 use Rattle.pack.specs.Places.{byte_at, name_count, key_place, key_number, value_place, sample_place, sample_count}
 use Rattle.pack.specs.Places.{body_place, loop_place, loop_count, loops_place, plain_of, parts_of, tag_place, tag_in}
-use Rattle.pack.specs.Places.{tag_count_in, associated_in, tag_due}
+use Rattle.pack.specs.Places.{associated_in, tag_due}
 use Rattle.pack.proofs.{Loops.loops_small, Loops.loops_even, Samples.good_all}
 
 -- how long a file is

@@ -1,3 +1,4 @@
+pub mod Answers
 pub mod AcceptedFiles
 pub mod Cuts
 pub mod Demand2

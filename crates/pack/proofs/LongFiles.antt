@@ -8,13 +8,14 @@ use borrow.Author.Tests.{le-leb, leb-true, leb-false}
 use lib.{Dec.leb, IntN.ℤ, IntN.pos, Seq.length-take-le, Seq.take_all}
 use lib.ListN.{length, get_or, take, drop, replicate, length-append, length-replicate, take-append-drop}
 use Rattle.refusals.specs.{Numbers.accepted, Outcome.outcome, Rules.AllRight, Rules.first, Rules.verdict}
-use Rattle.refusals.specs.declared.Verdict.{Verdict}
+use Rattle.refusals.specs.Rules.{Verdict}
 use Rattle.refusals.proofs.Settled.{settled_left, first_here}
 use Rattle.samples.proofs.Words.{Good}
 use Rattle.triad.specs.Tag.{triad}
 use Rattle.pack.specs.Calls.{refused_opening, lacks_of, surveying, inspecting, opening_pack, surveying_file}
 use Rattle.pack.specs.{Calls.inspecting_file, Calls.opening_file}
-use Rattle.pack.specs.Ciphers.{cipher_of, kind_in, cipher_in, Rings, ring_in}
+use Rattle.pack.specs.Ciphers.{cipher_of, kind_in, cipher_in, ring_in}
+use Rattle.pack.specs.declared.Rings.{Rings}
 use Rattle.pack.specs.declared.Kind.{Kind}
 use Rattle.pack.specs.Faults.{faults_from_samples, faults_from_key, file_faults, keyed_faults, open_faults}
 use Rattle.pack.specs.Layout.{Parts, parts, Within, name_good, loops_good, layout}

@@ -10,7 +10,7 @@ use Rattle.samples.proofs.Words.{Good, words_good}
 use Rattle.trivium.specs.Keystream.{trivium}
 use Rattle.enocoro.specs.Keystream.{enocoro}
 use Rattle.triad.specs.Tag.{triad}
-use Rattle.pack.specs.{Calls.opening_pack, Ciphers.cipher_in, Ciphers.Rings, Ciphers.ring_in, Opposites.Opposites}
+use Rattle.pack.specs.{Calls.opening_pack, Ciphers.cipher_in, declared.Rings.Rings, Ciphers.ring_in, Opposites.Opposites}
 use Rattle.pack.specs.Places.{parts_of}
 use Rattle.pack.proofs.Demand2.{opened_given}
 

@@ -4,7 +4,7 @@
 use mathlib.Core.{Path.◌≡◌, Path.refl, Path.sym, Path.ap, Path.◌∙◌, Logic.◌≢◌, Logic.◌⊎◌, Logic.inl, Logic.inr}
 use mathlib.Core.Logic.{⊎_elim}
 use mathlib.Core.{Bool.Bool, Bool.true, Bool.false, List.List, List.[], List.◌∷◌, List.◌++◌}
-use Prim.Native.Nat.{ℕ, suc, ◌+◌, ◌<◌, ◌≤◌}
+use Prim.Native.Nat.{ℕ, ◌+◌, ◌<◌, ◌≤◌}
 use native.Mathlib.Omega.{arith}
 use borrow.Author.Tests.{eq-eqb, ne_eqb, eqb-true, eqb-false, ltb-true, ltb-false}
 use lib.{Dec.eqb, Dec.ltb, ListN.length, ListN.get_or-append}
@@ -12,7 +12,10 @@ use Rattle.octets.specs.Stream.{Cipher}
 use Rattle.refusals.specs.Numbers.{cut_in_key}
 use Rattle.refusals.specs.Rules.{◌ends_before◌, Fault, ◌says◌, AllRight, verdict, reason}
 use Rattle.refusals.proofs.Faults.{Alike, alike_front}
-use Rattle.pack.specs.Ciphers.{cipher_of, count_of, picked, Admitted, kind_in, cipher_in}
+use Rattle.std.specs.Prelude.{Ok, Err, cond}
+use Rattle.std.specs.Result.{result_unwrap_or}
+use Rattle.refusals.specs.declared.Refusal.{Refusal, TheVariants.BadKeyCount}
+use Rattle.pack.specs.Ciphers.{cipher_of, count_of, picked, named_by, Admitted, kind_in, cipher_in}
 use Rattle.pack.specs.Faults.{name_section_faults, faults_from_key, file_faults}
 use Rattle.pack.specs.Places.{byte_at, key_place}
 use Rattle.pack.specs.{declared.Kind.Kind, declared.Kind.TheVariants.Trivium}
@@ -39,6 +42,52 @@ own_picked : (kind : Kind) → picked (count_of kind) ≡ kind
 own_picked Trivium = picks_trivium (λ e. omega arith) (λ e. omega arith)
 own_picked Enocoro = picks_enocoro refl
 own_picked Triad = picks_triad refl
+
+-- that count names it, and no count but these three names any
+pub named : {count : ℕ} (kind : Kind) → count ≡ count_of kind → Ok kind ≡ named_by count
+unfolding named_by
+named {count} kind e = rw (e, own_picked kind, eq-eqb (count_of kind) (count_of kind) refl) refl
+
+pub unnamed : {count : ℕ} → count ≢ count_of Trivium → count ≢ count_of Enocoro → count ≢ count_of Triad
+    → Err BadKeyCount ≡ named_by count
+unfolding named_by
+unnamed {count} eleven nine thirteen = rw (picks_trivium {count = count} nine thirteen, ne_eqb count 11 eleven) refl
+
+-- what a caller knows, once it has told an Ok from an Err
+pub is_named : (count : ℕ) {kind : Kind} → Ok kind ≡ named_by count → (kind ≡ picked count) × (count ≡ count_of kind)
+unfolding named_by
+is_named count {kind} e = go (eqb count (count_of (picked count))) refl e
+  where
+    go : (b : Bool) → eqb count (count_of (picked count)) ≡ b
+        → Ok kind ≡ cond b (Ok (picked count)) (Err BadKeyCount)
+        → (kind ≡ picked count) × (count ≡ count_of kind)
+    go true t e = let same : kind ≡ picked count = cc in (same, eqb-true count _ t ∙ ap count_of (sym same))
+    go false t e = absurd cc
+
+pub is_unnamed : (count : ℕ) {refusal : Refusal} → Err refusal ≡ named_by count
+    → (refusal ≡ BadKeyCount) × (count ≢ count_of (picked count))
+unfolding named_by
+is_unnamed count {refusal} e = go (eqb count (count_of (picked count))) refl e
+  where
+    go : (b : Bool) → eqb count (count_of (picked count)) ≡ b
+        → Err refusal ≡ cond b (Ok (picked count)) (Err BadKeyCount)
+        → (refusal ≡ BadKeyCount) × (count ≢ count_of (picked count))
+    go true t e = absurd cc
+    go false t e = (cc, eqb-false count _ t)
+
+-- and one that names none picks Trivium
+or_trivium : (b : Bool) → result_unwrap_or (cond b (Ok Trivium) (Err BadKeyCount)) Trivium ≡ Trivium
+or_trivium true = refl
+or_trivium false = refl
+
+pub held : (count : ℕ) → result_unwrap_or (named_by count) Trivium ≡ picked count
+unfolding named_by picked
+held count = go (eqb count 9) (eqb count 13) refl refl
+  where
+    go : (b c : Bool) → eqb count 9 ≡ b → eqb count 13 ≡ c → result_unwrap_or (named_by count) Trivium ≡ picked count
+    go true c e f = rw (eqb-true count 9 e) refl
+    go false true e f = rw (eqb-true count 13 f) refl
+    go false false e f = rw (e, f) (or_trivium (eqb count 11))
 
 -- 11, 9 and 13, and no other count, are the picked cipher's own
 pub admitted : (count : ℕ) → Admitted count

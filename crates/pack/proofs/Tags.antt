@@ -10,7 +10,7 @@ use Rattle.octets.specs.Stream.{Cipher}
 use Rattle.refusals.specs.{Numbers.accepted, Numbers.wrong_tag, Rules.Fault, Rules.first}
 use Rattle.refusals.proofs.{Faults.never, Faults.refused_at, Faults.rule_passes, Settled.first_here}
 use Rattle.refusals.proofs.{Settled.first_later}
-use Rattle.pack.specs.{Calls.surveying, Calls.opening_pack, Ciphers.cipher_of, Ciphers.Rings, Ciphers.ring_for}
+use Rattle.pack.specs.{Calls.surveying, Calls.opening_pack, Ciphers.cipher_of, declared.Rings.Rings, Ciphers.ring_for}
 use Rattle.pack.specs.Faults.{faults_from_samples, faults_from_key, file_faults, tag_faults, keyed_faults, room_faults}
 use Rattle.pack.specs.Faults.{open_faults}
 use Rattle.pack.specs.{Places.sample_count, Places.tag_in, Places.tag_place, Places.tag_due, Tags.Tags}

@@ -22,9 +22,9 @@ use Rattle.trivium.specs.Registers.{started}
 use Rattle.trivium.proofs.Bytes as Trivium-bytes
 use Rattle.enocoro.proofs.States as Enocoro-bytes
 use Rattle.triad.proofs.Bytes as Triad-bytes
-use Rattle.pack.specs.{Ciphers.cipher_of, Demand2.sealed_to, declared.Kind.Kind, declared.Opened.Opened}
+use Rattle.pack.specs.{Ciphers.cipher_of, Demand2.sealed_to, declared.Kind.Kind, Answers.Opened}
 use Rattle.pack.specs.declared.Kind.TheVariants.{Trivium, Enocoro, Triad}
-use Rattle.pack.specs.declared.Sealed.{Sealed}
+use Rattle.pack.specs.Answers.{Sealed}
 use Rattle.pack.specs.Calls.{refused_opening, accepted_opening, lacks_of, surveying, inspecting, opening_pack}
 use Rattle.pack.specs.Calls.{sealing_pack}
 use Rattle.pack.specs.Faults.{faults_from_samples, faults_from_key, file_faults, tag_faults, keyed_faults, open_faults}

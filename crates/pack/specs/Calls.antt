@@ -4,9 +4,10 @@ use Rattle.std.specs.Prelude.{ℕ, List}
 use lib.{IntN.ℤ, ListN.length}
 use Rattle.octets.specs.{Buffers.placed, Stream.Cipher}
 use Rattle.refusals.specs.{Numbers.accepted, Outcome.Outcome, Outcome.outcome, Rules.lacking, Rules.settled}
-use Rattle.pack.specs.Ciphers.{cipher_of, cipher_in, Rings, ring_for, ring_in}
-use Rattle.pack.specs.{Layout.Parts, Layout.layout, declared.Kind.Kind, declared.Opened.Opened}
-use Rattle.pack.specs.declared.Sealed.{Sealed}
+use Rattle.pack.specs.Ciphers.{cipher_of, cipher_in, ring_for, ring_in}
+use Rattle.pack.specs.declared.Rings.{Rings}
+use Rattle.pack.specs.{Layout.Parts, Layout.layout, declared.Kind.Kind, Answers.Opened}
+use Rattle.pack.specs.Answers.{Sealed}
 use Rattle.pack.specs.Faults.{file_faults, keyed_faults, open_faults, seal_faults}
 use Rattle.pack.specs.Places.{name_count, key_number, value_place, sample_count, loop_count, loops_place, parts_of}
 

@@ -4,8 +4,8 @@ use mathlib.Core.{Bool.cond, List.List, List.[], List.◌∷◌, List.◌++◌, 
 use lib.{Dec.ltb, IntN.ℤ, ListN.length, ListN.take}
 use Rattle.octets.specs.Stream.{Cipher}
 use Rattle.refusals.specs.Numbers.{accepted, cut_in_name, cut_in_key, cut_in_samples, cut_in_loops, bad_tag_section}
-use Rattle.refusals.specs.{Outcome.outcome, Rules.verdict_of, Rules.reason, declared.Verdict.Verdict}
-use Rattle.pack.specs.{Calls.refused_opening, Calls.surveying, Calls.opening_pack, declared.Opened.Opened}
+use Rattle.refusals.specs.{Outcome.outcome, Rules.verdict_of, Rules.reason, Rules.Verdict}
+use Rattle.pack.specs.{Calls.refused_opening, Calls.surveying, Calls.opening_pack, Answers.Opened}
 use Rattle.pack.specs.Faults.{file_faults}
 use Rattle.pack.specs.{Layout.tag_count, Places.key_place, Places.sample_place, Places.body_place}
 use Rattle.pack.specs.Places.{loop_place, loops_place, tag_place, tag_end}

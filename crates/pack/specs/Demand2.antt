@@ -6,8 +6,9 @@ use lib.{IntN.ℤ, ListN.length, ListN.get_or, ListN.take}
 use Rattle.octets.specs.{Buffers.slice, Buffers.placed, Rows.numbers_at, Stream.Cipher}
 use Rattle.refusals.specs.{Numbers.accepted, Outcome.Outcome, Outcome.outcome}
 use Rattle.pack.specs.Calls.{opening_file, sealing_file}
-use Rattle.pack.specs.Ciphers.{cipher_of, kind_in, Rings, ring_for}
-use Rattle.pack.specs.{declared.Kind.Kind, declared.Opened.Opened, declared.Sealed.Sealed}
+use Rattle.pack.specs.Ciphers.{cipher_of, kind_in, ring_for}
+use Rattle.pack.specs.declared.Rings.{Rings}
+use Rattle.pack.specs.{declared.Kind.Kind, Answers.Opened, Answers.Sealed}
 use Rattle.pack.specs.Layout.{Parts, parts, Within, fours, LaidFrom, layout}
 use Rattle.pack.specs.Places.{plain_of}
 use Rattle.samples.specs.Words.{NoLowest}

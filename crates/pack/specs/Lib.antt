@@ -1,3 +1,4 @@
+pub mod Answers
 pub mod Calls
 pub mod Ciphers
 pub mod Cuts

@@ -3,7 +3,8 @@ use Rattle.std.specs.Prelude.{ℕ, ℤ}
 use mathlib.Core.{List.List, Logic.◌≢◌, Path.◌≡◌}
 use Rattle.refusals.specs.Numbers.{accepted, wrong_tag}
 use Rattle.pack.specs.Calls.{surveying_file, opening_file}
-use Rattle.pack.specs.Ciphers.{cipher_of, kind_in, Rings, ring_for}
+use Rattle.pack.specs.Ciphers.{cipher_of, kind_in, ring_for}
+use Rattle.pack.specs.declared.Rings.{Rings}
 use Rattle.pack.specs.{Places.tag_in, Places.tag_place, Places.tag_due, declared.Kind.Kind}
 
 -- the tag that a file has is the one that is due to it

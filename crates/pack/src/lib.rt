@@ -1,9 +1,10 @@
 #![tactic(auto)]
 
 ghost use Rattle.std.specs.Prelude.{◌≡◌};
-ghost use Rattle.pack.specs.Calls.{refused_opening};
-ghost use Rattle.pack.specs.Ciphers.{cipher_of, count_of, picked};
+ghost use Rattle.pack.specs.Ciphers.{cipher_of, named_by, picked};
 ghost use Rattle.pack.specs.Layout.{name_good, tag_length};
+
+use refusals::Refusal;
 
 // The ciphers that a pack may be under.
 #[derive(Clone, Copy)]
@@ -13,12 +14,17 @@ pub enum Kind {
     Triad,
 }
 
-// What opening answers: `lacks` is how many bytes are missing of the section in which a file breaks off. A refused
-// answer has 0 for every other number.
+// The keys that a caller holds: a ring of four for each cipher, of which a pack's key number names one.
+#[derive(Clone, Copy)]
+pub struct Rings {
+    pub of_trivium: [[u8; 10]; 4],
+    pub of_enocoro: [[u8; 16]; 4],
+    pub of_triad: [[u8; 16]; 4],
+}
+
+// What an accepted file holds, and where.
 #[derive(Clone, Copy)]
 pub struct Opened {
-    pub refusal: u8,
-    pub lacks: usize,
     pub samples: usize,
     pub key: u8,
     pub loops: usize,
@@ -26,13 +32,6 @@ pub struct Opened {
     pub name_at: usize,
     pub value_at: usize,
     pub loops_at: usize,
-}
-
-// What sealing answers: the file's length, or 0 with a refusal.
-#[derive(Clone, Copy)]
-pub struct Sealed {
-    pub refusal: u8,
-    pub length: usize,
 }
 
 // The limits of a pack's counts and numbers, for the code: what each says stands in specs/Limits.antt.
@@ -56,51 +55,49 @@ pub const TAG_BYTES: usize = 8;
 
 pub const TAG_SECTION: usize = 9;
 
-// The cipher that a key count picks.
-pub fn kind_of(count: u8) -> Kind
-    ensures { result ≡ picked count }
-{
-    if count == ENOCORO_COUNT {
-        return Kind::Enocoro;
-    }
-    if count == TRIAD_COUNT {
-        return Kind::Triad;
-    }
-    Kind::Trivium
-}
+impl TryFrom<u8> for Kind {
+    type Error = Refusal;
 
-// The count of the cipher that a key count picks. Any count but these three is not its own, and so is refused.
-pub fn own_count(count: u8) -> u8
-    ensures { result ≡ count_of (picked count) }
-{
-    if count == ENOCORO_COUNT {
-        return ENOCORO_COUNT;
-    }
-    if count == TRIAD_COUNT {
-        return TRIAD_COUNT;
-    }
-    TRIVIUM_COUNT
-}
+    ghost try_from_gives = { λ count named. named ≡ named_by count };
 
-// How many bytes an initial value of a cipher has.
-pub fn value_bytes(kind: Kind) -> usize
-    ensures { result ≡ (cipher_of kind).value_bytes }
-{
-    match kind {
-        Kind::Trivium => trivium::VALUE_BYTES,
-        Kind::Enocoro => enocoro::VALUE_BYTES,
-        Kind::Triad => triad::VALUE_BYTES,
+    // The cipher that has this key count.
+    fn try_from(count: u8) -> Result<Kind, Refusal> {
+        match count {
+            TRIVIUM_COUNT => Ok(Kind::Trivium),
+            ENOCORO_COUNT => Ok(Kind::Enocoro),
+            TRIAD_COUNT => Ok(Kind::Triad),
+            _ => Err(Refusal::BadKeyCount),
+        }
     }
 }
 
-// How many bytes the tag section of a cipher has: its count and the tag, or nothing.
-pub fn tag_length(kind: Kind) -> usize
-    ensures { result ≡ tag_length (cipher_of kind) }
-{
-    match kind {
-        Kind::Trivium => 0,
-        Kind::Enocoro => 0,
-        Kind::Triad => TAG_SECTION,
+impl Kind {
+    // The cipher that a key count picks: a count that no cipher has is held to Trivium's.
+    pub fn picked(count: u8) -> Kind
+        ensures { result ≡ picked count }
+    {
+        Kind::try_from(count).unwrap_or(Kind::Trivium)
+    }
+
+    // How many bytes an initial value has.
+    pub fn value_bytes(self) -> usize
+        ensures { result ≡ (cipher_of self).value_bytes }
+    {
+        match self {
+            Kind::Trivium => trivium::VALUE_BYTES,
+            Kind::Enocoro => enocoro::VALUE_BYTES,
+            Kind::Triad => triad::VALUE_BYTES,
+        }
+    }
+
+    // How many bytes the tag section has: its count and the tag, or nothing.
+    pub fn tag_length(self) -> usize
+        ensures { result ≡ tag_length (cipher_of self) }
+    {
+        match self {
+            Kind::Trivium | Kind::Enocoro => 0,
+            Kind::Triad => TAG_SECTION,
+        }
     }
 }
 
@@ -108,33 +105,5 @@ pub fn tag_length(kind: Kind) -> usize
 pub fn name_good(name: &[u8]) -> bool
     ensures { result ≡ name_good name.now }
 {
-    let mut i = 0;
-    while i < name.len() {
-        let byte = name[i];
-        if byte < 32 {
-            return false;
-        }
-        if 126 < byte {
-            return false;
-        }
-        i += 1;
-    }
-    true
-}
-
-// The answer to a refused file: its number, and how many bytes it lacks.
-pub fn refused_opening(lacks: usize, number: u8) -> Opened
-    ensures { result ≡ refused_opening lacks number }
-{
-    Opened {
-        refusal: number,
-        lacks,
-        samples: 0,
-        key: 0,
-        loops: 0,
-        name_length: 0,
-        name_at: 0,
-        value_at: 0,
-        loops_at: 0,
-    }
+    name.iter().all(|byte| matches!(byte, 32..=126))
 }

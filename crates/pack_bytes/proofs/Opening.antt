@@ -12,7 +12,7 @@ use Rattle.refusals.specs.Rules.{◌under◌, Fault, ◌says◌, first, settled}
 use Rattle.refusals.proofs.Faults.{numbered, all_right, refused_at, rule_passes}
 use Rattle.refusals.proofs.Settled.{settled_done, settled_left, first_here, first_later}
 use Rattle.refusals.proofs.Settled.{answer_number, answer_done, answer_left}
-use Rattle.pack.specs.{Calls.refused_opening, declared.Opened.Opened}
+use Rattle.pack.specs.{Calls.refused_opening, Answers.Opened}
 use Rattle.pack.specs.Faults.{faults_from_samples, faults_from_key, file_faults, keyed_faults, open_faults}
 use Rattle.rings.specs.Ring.{keys_bytes}
 use Rattle.survey_bytes.specs.Calls.{answer_numbers, numbers_room}

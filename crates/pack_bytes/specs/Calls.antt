@@ -4,7 +4,7 @@ use lib.{IntN.ℤ, ListN.length}
 use Rattle.octets.specs.Buffers.{placed}
 use Rattle.refusals.specs.Numbers.{accepted, bad_key, no_room}
 use Rattle.refusals.specs.Rules.{◌under◌, ◌unlike◌, Fault, ◌says◌, settled}
-use Rattle.pack.specs.{Calls.accepted_opening, Layout.Parts, Places.parts_of, declared.Opened.Opened}
+use Rattle.pack.specs.{Calls.accepted_opening, Layout.Parts, Places.parts_of, Answers.Opened}
 use Rattle.pack.specs.Ciphers.{cipher_of, picked, cipher_in, ring_in}
 use Rattle.pack.specs.{Demand2.file_of, Faults.own_count, Faults.open_faults, Faults.part_name_faults, Faults.other_faults}
 use Rattle.pack.specs.Faults.{room_faults}

@@ -5,34 +5,30 @@
 ghost use Rattle.std.specs.Prelude.{◌≡◌};
 ghost use Rattle.pack.specs.Layout.{parts};
 ghost use Rattle.record_bytes.specs.Written.{wrote};
+ghost use Rattle.refusals.specs.Answers.{number_in};
 ghost use Rattle.pack_bytes.specs.Calls.{pack_opened, pack_open, pack_seal};
 
-pub fn open(file: &[u8], keys: &[u8], samples: &mut [i16], answer: &mut [usize]) -> u8
-    ensures { pack_opened samples.new answer.new result
+use pack::Kind;
+use refusals::Refusal;
+use seal_faults::Sound;
+
+pub fn open(
+    file: &[u8],
+    keys: &[u8],
+    samples: &mut [i16],
+    answer: &mut [usize],
+) -> Result<(), Refusal>
+    ensures { pack_opened samples.new answer.new (number_in result)
         ≡ pack_open file.now keys.now samples.old answer.old }
 {
-    if keys.len() != rings::KEYS_BYTES {
-        return refusals::BAD_KEY;
-    }
-    let own = rings::keys_in(keys);
-    let first = rings::trivium_ring(&own);
-    let second = rings::enocoro_ring(&own);
-    let third = rings::triad_ring(&own);
+    let rings = rings::rings_in(keys)?;
     if answer.len() < survey_bytes::NUMBERS {
-        let told = inspector::inspect(file, first, second, third);
-        let fault = told.refusal;
-        if fault != refusals::ACCEPTED {
-            return fault;
-        }
-        return refusals::NO_ROOM;
+        inspector::inspect(file, rings)?;
+        return Err(Refusal::NoRoom);
     }
-    let opened = opener::open(file, first, second, third, samples);
-    let refusal = opened.refusal;
-    if refusal != refusals::ACCEPTED {
-        return refusal;
-    }
+    let opened = opener::open(file, rings, samples)?;
     survey_bytes::tell(answer, opened);
-    refusals::ACCEPTED
+    Ok(())
 }
 
 // The cipher is told by its key count. A count of none is looked at behind the name, where the file would have it.
@@ -46,34 +42,22 @@ pub fn seal(
     loops: &[u32],
     output: &mut [u8],
     written: &mut usize,
-) -> u8
-    ensures { wrote output.new written.new result
+) -> Result<(), Refusal>
+    ensures { wrote output.new written.new (number_in result)
         ≡ pack_seal cipher keys.now
         (parts name.now key value.now samples.now loops.now)
         output.old written.old }
 {
-    if keys.len() != rings::KEYS_BYTES {
-        return refusals::BAD_KEY;
-    }
-    if cipher != pack::own_count(cipher) {
-        let named = seal_faults::name_fault(name);
-        if named != refusals::ACCEPTED {
-            return named;
-        }
-        return refusals::BAD_KEY_COUNT;
-    }
-    let own = rings::keys_in(keys);
-    let first = rings::trivium_ring(&own);
-    let second = rings::enocoro_ring(&own);
-    let third = rings::triad_ring(&own);
-    let kind = pack::kind_of(cipher);
-    let sealed = sealer::seal(
-        kind, name, first, second, third, key, value, samples, loops, output,
-    );
-    let refusal = sealed.refusal;
-    if refusal != refusals::ACCEPTED {
-        return refusal;
-    }
-    *written = sealed.length;
-    refusals::ACCEPTED
+    let rings = rings::rings_in(keys)?;
+    seal_faults::name_fault(name)?;
+    let kind = Kind::try_from(cipher)?;
+    let sound = Sound {
+        name,
+        key,
+        value,
+        samples,
+        loops,
+    };
+    *written = sealer::seal(kind, sound, rings, output)?;
+    Ok(())
 }

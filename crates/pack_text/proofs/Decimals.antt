@@ -1,8 +1,10 @@
 -- Numbers in decimal: a zero at the front may go as long as a digit is left, and what goes counts for nothing.
-use mathlib.Core.{Path.◌≡◌, Path.refl, Path.sym, Path.ap, Path.ap₂, Path.subst, Path.◌∙◌}
+use mathlib.Core.{Path.◌≡◌, Path.refl, Path.ap, Path.ap₂, Path.subst, Path.◌∙◌}
 use mathlib.Core.{Bool.Bool, Bool.true, Bool.false, List.List, List.[], List.◌∷◌, List.map, Logic.◌≢◌}
-use Prim.Native.Nat.{ℕ, zero, suc, ◌+◌, ◌-◌, ◌/◌, ◌%◌, ◌^◌, ◌<◌, ◌≤◌}
-use native.Mathlib.{Nat.div-eq_of_lt, Nat.lt_of_lt_of_le, Nat.mod-eq_of_lt, Nat.pow-le-pow_right, Omega.arith}
+use Rattle.std.proofs.Math.Nat.{one-le-pow, le-div_iff_mul-le, div-lt_iff_lt-mul}
+use Prim.Native.Nat.{ℕ, zero, suc, ◌+◌, ◌-◌, ◌*◌, ◌/◌, ◌%◌, ◌^◌, ◌<◌, ◌≤◌}
+use native.Mathlib.{Nat.div-eq_of_lt, Nat.lt_of_lt_of_le, Nat.mod-eq_of_lt, Nat.pow-le-pow_right, Nat.pow-suc, Omega.arith}
+use native.Mathlib.Numerals.{add-one}
 use borrow.Author.Tests.{ltb-true, ltb-false}
 use lib.Dec.{ltb}
 use lib.ListN.{length, get_or, length-map, get_or-map}
@@ -29,28 +31,30 @@ unfolding digits
 front_goes zero x h z = absurd (omega arith)
 front_goes (suc n) x h z = zero_goes (x / 10 ^ suc n % 10) (x / 10 ^ n % 10) (digits 10 n x) z
 
-pub without_zero : (n x : ℕ) → 1 < n → x / 10 ^ (n - 1) % 10 ≡ 0
-    → trimmed (digits 10 (n - 1) x) ≡ trimmed (digits 10 n x)
-without_zero n x h z = front_goes (n - 1) x (omega arith) z ∙ ap (λ (k : ℕ). trimmed (digits 10 k x)) same
-  where
-    same : suc (n - 1) ≡ n
-    same = omega arith
+-- zeros at the front of a number below 10 ^ n go, however many they are
+zeros_go : (n x : ℕ) → 1 ≤ n → x < 10 ^ n → (j : ℕ) → trimmed (digits 10 n x) ≡ trimmed (digits 10 (j + n) x)
+zeros_go n x one small zero = let same : n ≡ zero + n = omega arith in ap (λ (k : ℕ). trimmed (digits 10 k x)) same
+zeros_go n x one small (suc j) =
+    let none : x / 10 ^ (j + n) ≡ 0 = div-eq_of_lt
+    (lt_of_lt_of_le small (pow-le-pow_right {n = 10} (omega arith) (omega arith))) in
+    let same : suc (j + n) ≡ suc j + n = omega arith in
+    zeros_go n x one small j ∙ front_goes (j + n) x (omega arith) (ap (λ (v : ℕ). v % 10) none)
+    ∙ ap (λ (k : ℕ). trimmed (digits 10 k x)) same
 
-pub all_stay : (n x : ℕ) → 1 < n → x / 10 ^ (n - 1) % 10 ≢ 0 → digits 10 n x ≡ trimmed (digits 10 n x)
+-- a number from 10 ^ k on and below the next power has k + 1
+pub fills : (k x : ℕ) → 10 ^ k ≤ x → x < 10 * 10 ^ k → k < 20 → digits 10 (k + 1) x ≡ trimmed (digits 10 20 x)
 unfolding digits
-all_stay n x h d =
-    subst (λ (k : ℕ). digits 10 k x ≡ trimmed (digits 10 k x)) same (go (n - 1) d)
+fills k x least less h =
+    let some : 0 < 10 ^ k = one-le-pow k 10 (omega arith) in
+    let one : 1 ≤ x / 10 ^ k = (le-div_iff_mul-le some).1 (omega arith) in
+    let few : x / 10 ^ k < 10 = (div-lt_iff_lt-mul some).1 less in
+    ap (λ (n : ℕ). digits 10 n x) (add-one k)
+    ∙ other_stays (x / 10 ^ k % 10) (digits 10 k x) (λ z. omega arith)
+    ∙ zeros_go (suc k) x (omega arith) (omega (arith, pow-suc 10 k)) (19 - k)
+    ∙ ap (λ (n : ℕ). trimmed (digits 10 n x)) all
   where
-    go : (m : ℕ) → x / 10 ^ m % 10 ≢ 0 → digits 10 (suc m) x ≡ trimmed (digits 10 (suc m) x)
-    go m d = other_stays (x / 10 ^ m % 10) (digits 10 m x) d
-
-    same : suc (n - 1) ≡ n
-    same = omega arith
-
--- one digit stays, whatever it is
-pub one_stays : (n x : ℕ) → n ≡ 1 → digits 10 n x ≡ trimmed (digits 10 n x)
-unfolding digits trimmed
-one_stays n x e = subst (λ (k : ℕ). digits 10 k x ≡ trimmed (digits 10 k x)) (sym e) refl
+    all : 19 - k + suc k ≡ 20
+    all = omega arith
 
 -- ---- as letters
 

@@ -4,11 +4,11 @@ use Prim.Native.Nat.{ℕ, ◌<◌, ◌≤◌}
 use native.Mathlib.Omega.{arith}
 use lib.ListN.{length}
 use Rattle.octets.specs.{Buffers.slice, Stream.Cipher}
-use Rattle.refusals.specs.{Numbers.accepted, Numbers.bad_key, Rules.first, Rules.lacking, declared.Verdict.Verdict}
+use Rattle.refusals.specs.{Numbers.accepted, Numbers.bad_key, Rules.first, Rules.lacking, Rules.Verdict}
 use Rattle.refusals.proofs.Faults.{none_wrong, rule_passes, lacking_passes, verdict_at}
 use Rattle.refusals.proofs.Settled.{settled_done, settled_left, answer_left}
 use Rattle.pack.specs.{Calls.accepted_opening, Calls.inspecting, Calls.inspecting_file, Ciphers.cipher_in}
-use Rattle.pack.specs.{Ciphers.ring_in, Faults.file_faults, Faults.keyed_faults, declared.Opened.Opened}
+use Rattle.pack.specs.{Ciphers.ring_in, Faults.file_faults, Faults.keyed_faults, Answers.Opened}
 use Rattle.pack.proofs.Theorems.{keyed_numbered, keyed_shown, keyed_lacks, inspect_refusal}
 use Rattle.rings.specs.Ring.{keys_bytes}
 use Rattle.pack_text.specs.Text.{pack_lines, refused_line, keys_in, pack_in, input_faults, text_of}

@@ -13,7 +13,7 @@ use Rattle.refusals.specs.Rules.{◌over◌, ◌says◌, AllRight, told, first, 
 use Rattle.refusals.proofs.Faults.{all_right, none_wrong, first_append}
 use Rattle.refusals.proofs.Settled.{by_settled, settled_done, settled_left, settled_map}
 use Rattle.pack.specs.Calls.{refused_opening, accepted_opening, lacks_of, inspecting, opening_pack, surveying_file}
-use Rattle.pack.specs.{Calls.inspecting_file, Calls.opening_file, Ciphers.picked, Ciphers.cipher_in, Ciphers.Rings}
+use Rattle.pack.specs.{Calls.inspecting_file, Calls.opening_file, Ciphers.picked, Ciphers.cipher_in, declared.Rings.Rings}
 use Rattle.pack.specs.{Ciphers.ring_in, Places.tag_due}
 use Rattle.pack.specs.Faults.{faults_from_samples, faults_from_key, file_faults, keyed_faults, open_faults}
 use Rattle.pack.specs.{Layout.name_good, Layout.loops_good, Limits.most_samples, Limits.longest_file}

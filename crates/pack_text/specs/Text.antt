@@ -3,7 +3,7 @@ use Rattle.std.specs.Prelude.{ℕ, zero, suc, ◌+◌, List, [], ◌∷◌, ◌+
 use Rattle.octets.specs.{Buffers.slice, Buffers.put, Digits.digits}
 use Rattle.refusals.specs.{Numbers.bad_key, Outcome.Outcome, Outcome.outcome}
 use Rattle.refusals.specs.Rules.{◌under◌, Fault, ◌says◌, lacking, settled}
-use Rattle.pack.specs.{Ciphers.cipher_in, Ciphers.ring_in, Ciphers.Rings, Faults.keyed_faults, Places.name_count}
+use Rattle.pack.specs.{Ciphers.cipher_in, Ciphers.ring_in, declared.Rings.Rings, Faults.keyed_faults, Places.name_count}
 use Rattle.pack.specs.Places.{key_number, sample_count, loop_count}
 use Rattle.rings.specs.Ring.{keys_bytes, rings_of}
 

@@ -1,25 +1,34 @@
 -- What each public call of a receiver owes, for every input: its rules in order, what it does, what a refusal
 -- leaves. Hearing is lent two buffers, one for the sound and one for the answer frame.
-use Rattle.std.specs.Prelude.{ℕ, ◌+◌}
+use Rattle.std.specs.Prelude.{ℕ, ◌+◌, Result, Ok, Err}
 use mathlib.Core.{Bool.Bool, Bool.true, Bool.false, Bool.cond, List.List, List.[], List.◌∷◌, List.◌++◌}
 use lib.{Dec.ltb, Dec.eqb, ListN.length}
 use Rattle.octets.specs.{Buffers.placed, Stream.Cipher}
 use Rattle.refusals.specs.Numbers.{accepted, no_room, wrong_sound, not_a_frame, other_session, impossible, out_of_rule}
-use Rattle.refusals.specs.{Numbers.other_length, Rules.Fault, Rules.◌says◌, Rules.settled}
+use Rattle.refusals.specs.{Numbers.other_length, Rules.Fault, Rules.◌says◌, Rules.settled, Answers.number_of}
+use Rattle.refusals.specs.declared.Refusal.{Refusal}
 use Rattle.refusals.specs.Rules.{◌over◌, ◌under◌, ◌unlike◌, unless, ◌given◌is◌}
 use Rattle.blocks.specs.{Blocks.blocks, Blocks.place, Blocks.size, Covering.covered}
 use Rattle.names.specs.Naming.{name_faults, no_key, no_pair}
 use Rattle.frames.specs.Frames.{Frame, opening, block, holds, too_long, bytes, Heard, it, no_frame, heard}
-use Rattle.receiver.specs.{Rules.receiver_in_rule, declared.Receiver.Receiver}
-use Rattle.receiver.specs.{declared.ReceiverAnswer.ReceiverAnswer, declared.ReceiverMade.ReceiverMade}
+use Rattle.receiver.specs.{Rules.receiver_in_rule, declared.Receiver.Receiver, declared.Answered.Answered}
 
 -- ---- making: the names' refusals; a refused making has only zeros to give
 
 abbrev pub fresh_receiver : List ℕ → List ℕ → Receiver
 fresh_receiver key pair = record { key = key; pair = pair; session = 0; length = 0; count = 0 }
 
+-- the number and the receiver, and what an Ok or an Err stands for
+pub record ReceiverMade : Type 0 where
+  pub refusal : ℕ
+  pub receiver : Receiver
+
 abbrev pub made : Receiver → ℕ → ReceiverMade
 made r number = record { refusal = number; receiver = r }
+
+abbrev pub made_in : Result Receiver Refusal → ReceiverMade
+made_in (Ok r) = made r accepted
+made_in (Err refusal) = made (fresh_receiver no_key no_pair) (number_of refusal)
 
 unfoldable pub making_receiver : List ℕ → List ℕ → ReceiverMade
 making_receiver key pair =
@@ -104,6 +113,20 @@ on_frame cipher r sound (it (opening session long)) = on_opening r sound session
 on_frame cipher r sound (it (block session k run)) = on_block cipher r sound k run
 on_frame cipher r sound (it (holds session held)) = still_held r sound
 on_frame cipher r sound (it (too_long session)) = still_held r sound
+
+-- the answer of a hearing: the number, the length of the frame that was written, and the receiver afterwards
+pub record ReceiverAnswer : Type 0 where
+  pub refusal : ℕ
+  pub length : ℕ
+  pub receiver : Receiver
+
+abbrev pub answered : Receiver → ℕ → Answered
+answered next length = record { length = length; receiver = next }
+
+-- what an Ok or an Err stands for: a refused hearing leaves the receiver as given
+abbrev pub answer_in : Receiver → Result Answered Refusal → ReceiverAnswer
+answer_in r (Ok a) = record { refusal = accepted; length = a.length; receiver = a.receiver }
+answer_in r (Err refusal) = record { refusal = number_of refusal; length = 0; receiver = r }
 
 -- what hearing comes to: the answer, and what the two buffers hold afterwards
 pub record Received : Type 0 where

@@ -4,12 +4,14 @@
 // it was lent.
 ghost use Rattle.std.specs.Prelude.{◌≡◌};
 ghost use Rattle.octets.specs.Buffers.{put};
+ghost use Rattle.refusals.specs.Answers.{number_in};
 ghost use Rattle.refusals.specs.Outcome.{outcome};
 ghost use Rattle.receiver_bytes.specs.Calls.{receiver_make, reception, receiver_hear};
 ghost use Rattle.receiver_bytes.specs.Record.{receiver_bytes, receiver_in};
 
 use receiver::Receiver;
 use record_bytes::Front;
+use refusals::Refusal;
 
 pub const RECEIVER_BYTES: usize = 26;
 
@@ -17,6 +19,7 @@ pub const RECEIVER_BYTES: usize = 26;
 const NO_LENGTH: u32 = 32769;
 
 // The receiver that the bytes are, or one that is out of rule.
+#[tactic(auto, using(std::proofs::lemmas::Bool::Decides::nat_tests), unfolding(crate::specs::Record::receiver_in))]
 pub fn receiver_in(bytes: &[u8]) -> Receiver
     ensures { result ≡ receiver_in bytes.now }
 {
@@ -30,15 +33,13 @@ pub fn receiver_in(bytes: &[u8]) -> Receiver
         };
     }
     let front = record_bytes::front_in(bytes);
-    let key = front.key;
-    let pair = front.pair;
-    let count = octets::two_at(bytes, 24);
+    let Front { key, pair, .. } = front;
     Receiver {
         key,
         pair,
         session: front.session,
         length: front.length,
-        count,
+        count: octets::two_at(bytes, 24),
     }
 }
 
@@ -49,9 +50,7 @@ fn write_receiver(d: &mut [u8], receiver: Receiver)
     if d.len() < RECEIVER_BYTES {
         return;
     }
-    let key = receiver.key;
-    let pair = receiver.pair;
-    let count = receiver.count;
+    let Receiver { key, pair, .. } = receiver;
     let front = Front {
         key,
         pair,
@@ -59,24 +58,20 @@ fn write_receiver(d: &mut [u8], receiver: Receiver)
         length: receiver.length,
     };
     record_bytes::write_front(d, front);
-    octet_writer::write_number(d, 24, 2, count as u64);
+    octet_writer::write_number(d, 24, 2, u64::from(receiver.count));
 }
 
-pub fn make(receiver: &mut [u8], key: &[u8], pair: &[u8]) -> u8
-    ensures { outcome result receiver.new
+#[tactic(auto, using(crate::proofs::Calls::make_short))]
+pub fn make(receiver: &mut [u8], key: &[u8], pair: &[u8]) -> Result<(), Refusal>
+    ensures { outcome (number_in result) receiver.new
         ≡ receiver_make receiver.old key.now pair.now }
 {
-    let made = Receiver::new(key, pair);
-    let refusal = made.refusal;
-    if refusal != refusals::ACCEPTED {
-        return refusal;
-    }
+    let made = Receiver::new(key, pair)?;
     if receiver.len() < RECEIVER_BYTES {
-        return refusals::NO_ROOM;
+        return Err(Refusal::NoRoom);
     }
-    let fresh = made.receiver;
-    write_receiver(receiver, fresh);
-    refusals::ACCEPTED
+    write_receiver(receiver, made);
+    Ok(())
 }
 
 pub fn hear(
@@ -85,18 +80,12 @@ pub fn hear(
     sound: &mut [u8],
     answer: &mut [u8],
     written: &mut usize,
-) -> u8
-    ensures { reception receiver.new sound.new answer.new written.new result
+) -> Result<(), Refusal>
+    ensures { reception receiver.new sound.new answer.new written.new (number_in result)
         ≡ receiver_hear receiver.old frame.now sound.old answer.old written.old }
 {
-    let record = receiver_in(receiver);
-    let taken = record.hear(frame, sound, answer);
-    let refusal = taken.refusal;
-    if refusal != refusals::ACCEPTED {
-        return refusal;
-    }
-    let next = taken.receiver;
-    write_receiver(receiver, next);
-    *written = taken.length;
-    refusals::ACCEPTED
+    let answered = receiver_in(receiver).hear(frame, sound, answer)?;
+    write_receiver(receiver, answered.receiver);
+    *written = answered.length;
+    Ok(())
 }

@@ -9,7 +9,7 @@ use Rattle.octets.proofs.Numbers.{Below}
 use Rattle.octets.proofs.Rows.{length_row, numbers_back, row_back}
 use Rattle.octets.proofs.Slices.{length_slice, slice_front, slice_behind, slice_add}
 use Rattle.refusals.proofs.Settled.{done_if}
-use Rattle.names.specs.{Naming.key_bytes, Naming.pair_bytes, Naming.named, declared.Names.Names}
+use Rattle.names.specs.{Naming.key_bytes, Naming.pair_bytes, Naming.Named, Naming.named}
 use Rattle.record_bytes.specs.Front.{front_widths, front_numbers, front_size, front_bytes, front_in, FrontFits}
 use Rattle.record_bytes.specs.declared.Front.{Front}
 
@@ -57,7 +57,7 @@ front_again bytes b room =
     let key : List ℕ = slice bytes 0 key_bytes in
     let pair : List ℕ = slice bytes key_bytes pair_bytes in
     let numbers : List ℕ = row front_widths (numbers_at front_widths bytes 16) in
-    ap (λ (n : Names). n.key ++ n.pair ++ numbers)
+    ap (λ (n : Named). n.key ++ n.pair ++ numbers)
     (names_read key pair (length_slice bytes 0 key_bytes (omega arith))
     (length_slice bytes key_bytes pair_bytes (omega arith)))
     ∙ ap₂ (λ (l r : List ℕ). l ++ r) (sym (slice_add bytes 0 key_bytes pair_bytes))

@@ -3,7 +3,7 @@
 use Rattle.std.specs.Prelude.{ℕ, List, [], ◌∷◌, length, get_or}
 use Rattle.octets.specs.Rows.{row, numbers_at}
 use Rattle.refusals.specs.{Numbers.not_a_cipher, Rules.◌under◌, Rules.◌says◌, Rules.settled}
-use Rattle.record_bytes.specs.declared.SixWords.{SixWords}
+use Rattle.shift_registers.specs.declared.SixWords.{SixWords}
 
 abbrev pub six_widths : List ℕ
 six_widths = 8 ∷ 8 ∷ 8 ∷ 8 ∷ 8 ∷ 8 ∷ []

@@ -1,3 +1,4 @@
+pub mod Answers
 pub mod ByTurns
 pub mod Faults
 pub mod Settled

@@ -3,7 +3,7 @@
 use Rattle.std.specs.Prelude.{ℕ, suc, ◌-◌, ◌≤◌, eqb, ltb}
 use mathlib.Core.{Bool.Bool, Bool.true, Bool.not, Bool.cond, Bool.◌&&◌, List.List, List.[], List.◌∷◌, Logic.◌≢◌}
 use mathlib.Core.{Path.◌≡◌}
-use Rattle.refusals.specs.{Numbers.accepted, declared.Verdict.Verdict}
+use Rattle.refusals.specs.Numbers.{accepted}
 
 infix 30 ◌over◌ ◌under◌ ◌unlike◌ ◌ends_before◌
 infix 25 ◌given◌is◌
@@ -70,6 +70,11 @@ first = told (λ f. f.number) accepted
 -- and how many bytes are missing there
 unfoldable pub lacking : List Fault → ℕ
 lacking = told (λ f. missing f.wrong) 0
+
+-- what a file's rules come to: a number for no, and how many bytes the file lacks where it breaks off
+pub record Verdict : Type 0 where
+  pub number : ℕ
+  pub lacks : ℕ
 
 abbrev pub verdict_of : ℕ → ℕ → Verdict
 verdict_of number lacks = record { number = number; lacks = lacks }

@@ -1,80 +1,72 @@
 #![tactic(auto)]
 
 ghost use Rattle.std.specs.Prelude.{◌≡◌};
-ghost use Rattle.refusals.specs.Rules.{verdict_of};
+ghost use Rattle.refusals.specs.Answers.{number_in, lacking_nothing};
 
-// The numbers for no, for the code: what each says stands in specs/Numbers.antt.
-pub const ACCEPTED: u8 = 0;
+// Why a call is refused. The numbers are document 01's: what each says stands in specs/Numbers.antt.
+#[derive(Clone, Copy, PartialEq, Eq)]
+pub enum Refusal {
+    BadKey = 1,
+    BadValue = 2,
+    NotACipher = 3,
+    LongName = 11,
+    BadName = 12,
+    BadKeyCount = 13,
+    BadKeyNumber = 14,
+    ManySamples = 15,
+    ManyLoops = 16,
+    BadLoop = 17,
+    MoreBytes = 18,
+    NoRoom = 19,
+    NoSession = 20,
+    LongSound = 21,
+    NoTransfer = 22,
+    WrongSound = 23,
+    NotAFrame = 24,
+    OtherSession = 25,
+    Impossible = 26,
+    OutOfRule = 27,
+    CutInName = 30,
+    CutInKey = 31,
+    CutInSamples = 32,
+    CutInLoops = 33,
+    LowestSample = 34,
+    OddSamples = 35,
+    OtherLength = 36,
+    OutsideWindow = 37,
+    WrongTag = 38,
+    BadTagSection = 45,
+}
 
-pub const BAD_KEY: u8 = 1;
-
-pub const BAD_VALUE: u8 = 2;
-
-pub const NOT_A_CIPHER: u8 = 3;
-
-pub const LONG_NAME: u8 = 11;
-
-pub const BAD_NAME: u8 = 12;
-
-pub const BAD_KEY_COUNT: u8 = 13;
-
-pub const BAD_KEY_NUMBER: u8 = 14;
-
-pub const MANY_SAMPLES: u8 = 15;
-
-pub const MANY_LOOPS: u8 = 16;
-
-pub const BAD_LOOP: u8 = 17;
-
-pub const MORE_BYTES: u8 = 18;
-
-pub const NO_ROOM: u8 = 19;
-
-pub const NO_SESSION: u8 = 20;
-
-pub const LONG_SOUND: u8 = 21;
-
-pub const NO_TRANSFER: u8 = 22;
-
-pub const WRONG_SOUND: u8 = 23;
-
-pub const NOT_A_FRAME: u8 = 24;
-
-pub const OTHER_SESSION: u8 = 25;
-
-pub const IMPOSSIBLE: u8 = 26;
-
-pub const OUT_OF_RULE: u8 = 27;
-
-pub const CUT_IN_NAME: u8 = 30;
-
-pub const CUT_IN_KEY: u8 = 31;
-
-pub const CUT_IN_SAMPLES: u8 = 32;
-
-pub const CUT_IN_LOOPS: u8 = 33;
-
-pub const LOWEST_SAMPLE: u8 = 34;
-
-pub const ODD_SAMPLES: u8 = 35;
-
-pub const OTHER_LENGTH: u8 = 36;
-
-pub const OUTSIDE_WINDOW: u8 = 37;
-
-pub const WRONG_TAG: u8 = 38;
-
-pub const BAD_TAG_SECTION: u8 = 45;
-
-// What a file's rules come to: a number for no, and how many bytes the file lacks where it breaks off.
-#[derive(Clone, Copy)]
-pub struct Verdict {
-    pub number: u8,
+// Why a file is refused, and how many bytes are missing of the section in which it breaks off.
+#[derive(Clone, Copy, PartialEq, Eq)]
+pub struct Flaw {
+    pub refusal: Refusal,
     pub lacks: usize,
 }
 
-pub fn verdict_of(number: u8, lacks: usize) -> Verdict
-    ensures { result ≡ verdict_of number lacks }
+impl From<Refusal> for Flaw {
+    ghost from_gives = { λ refusal flaw. flaw ≡ lacking_nothing refusal };
+
+    fn from(refusal: Refusal) -> Flaw {
+        Flaw { refusal, lacks: 0 }
+    }
+}
+
+impl From<Flaw> for Refusal {
+    ghost from_gives = { λ flaw refusal. refusal ≡ flaw.refusal };
+
+    fn from(flaw: Flaw) -> Refusal {
+        flaw.refusal
+    }
+}
+
+// The number of an answer, for callers in other languages: 0 where the call isn't refused.
+pub fn number(answer: Result<(), Refusal>) -> u8
+    ensures { result ≡ number_in answer }
 {
-    Verdict { number, lacks }
+    match answer {
+        Ok(()) => 0,
+        Err(refusal) => refusal as u8,
+    }
 }

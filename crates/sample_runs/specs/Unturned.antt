@@ -1,5 +1,5 @@
--- Samples on their way from bytes to the output: stored as they stand, and turned once all are there. Only functions
--- inside of this crate promise something by these; what it promises to others does not name them.
+-- Samples read in two steps: taken as they stand, as if the least significant byte came first, and turned. That this is what
+-- they are read as is a law of its own (proofs/Samples); `read_words` takes both steps at once.
 use Rattle.std.specs.Prelude.{ℕ, ◌/◌, ◌%◌, List, map}
 use lib.{IntN.ℤ, ListN.take}
 use Rattle.samples.specs.Words.{signed, unsigned, plain_word, word_of, by_twos}

@@ -1,13 +1,15 @@
 -- A number with its digits in the other order. The digits of a number that digits make are those digits, so words that
 -- were reversed can be put together as well as the words.
-use mathlib.Core.{Path.◌≡◌, Path.sym, Path.subst, Path.ap, Path.ap₂, Path.◌∙◌}
+use mathlib.Core.{Path.◌≡◌, Path.refl, Path.sym, Path.subst, Path.ap, Path.ap₂, Path.◌∙◌}
 use mathlib.Core.List.{List, [], ◌∷◌, reverse, reverse_aux}
-use Prim.Native.Nat.{ℕ, zero, suc, ◌+◌, ◌^◌, ◌<◌, ◌≤◌}
+use Prim.Native.Nat.{ℕ, zero, suc, ◌+◌, ◌/◌, ◌%◌, ◌^◌, ◌<◌, ◌≤◌}
 use native.Mathlib.{Nat.mod-lt, Nat.mod-eq_of_lt, Omega.arith}
 use borrow.Author.Tests.{le-leb, lt-leb}
-use lib.{Bits.bit_xor, Bits.xor_lt, ListN.length, ListN.get_or}
-use Rattle.octets.specs.{Digits.number, Digits.number_at, Digits.digits, Stream.enciphered}
-use Rattle.octets.proofs.Numbers.{Below, length_digits, digits_number, number_digits, number_at_below, number_read}
+use lib.{Bits.bit_xor, Bits.xor_lt, ListN.length, ListN.get_or, ListN.drop, Seq.take_all}
+use Rattle.std.specs.Int.{from_le_bytes, swap_bytes, to_le_bytes, w64}
+use Rattle.octets.specs.{Digits.number, Digits.number_at, Digits.number_after, Digits.digits, Stream.enciphered}
+use Rattle.octets.proofs.Slices.{neighbours, slice_read}
+use Rattle.octets.proofs.Numbers.{Below, high_first, length_digits, digits_number, number_digits, number_at_below, number_read}
 use Rattle.octets.proofs.Streams.{digits_xor, under}
 use Rattle.samples.specs.Words.{swapped, eight_from}
 
@@ -65,6 +67,29 @@ swapped_xor x y hx hy =
     ∙ ap (number 256) (sym (digits_xor 8 x y))
     ∙ number_digits 256 (omega arith) 8 (bit_xor x y)
     ∙ mod-eq_of_lt (xor_lt 64 x y hx hy)
+
+-- the library's bytes of a word, the least significant first, and the word that it turns
+pub low_bytes : (x : ℕ) → to_le_bytes w64 x ≡ reverse (digits 256 8 x)
+unfolding digits
+low_bytes x = ap (λ (low : ℕ). low ∷ drop 1 (reverse (digits 256 8 x))) whole
+  where
+    whole : x % 256 ≡ x / 1 % 256
+    whole = omega arith
+
+pub turned : (x : ℕ) → swap_bytes w64 x ≡ swapped x
+unfolding swapped
+turned x = high_first (to_le_bytes w64 x) refl ∙ ap (number 256) (low_bytes x)
+
+joined : (bytes : List ℕ)
+    → from_le_bytes w64 bytes ≡ number 256 (reverse (get_or bytes 0 0 ∷ neighbours bytes 0 1 7 0))
+unfolding number_after
+joined bytes = omega arith
+
+pub low_first : (bytes : List ℕ) → length bytes ≡ 8 → from_le_bytes w64 bytes ≡ number 256 (reverse bytes)
+low_first bytes long =
+    joined bytes
+    ∙ ap (λ (l : List ℕ). number 256 (reverse l))
+    (slice_read bytes 0 7 0 (omega arith) ∙ take_all 8 bytes (omega arith))
 
 -- ---- eight bytes of a run
 

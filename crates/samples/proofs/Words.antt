@@ -4,24 +4,36 @@ use mathlib.Core.Path.{◌≡◌, refl, sym, ap, ap₂, ◌∙◌}
 use mathlib.Core.Bool.{Bool, true, false, cond}
 use mathlib.Core.{List.List, List.[], List.◌∷◌, List.◌++◌, List.map, Logic.◌≢◌}
 use Prim.Native.Nat.{ℕ, zero, suc, ◌+◌, ◌-◌, ◌*◌, ◌/◌, ◌%◌, ◌<◌, ◌≤◌}
-use native.Mathlib.{Nat.zero-add, Nat.mod-eq_of_lt, Omega.arith}
+use native.Mathlib.{Nat.mod-eq_of_lt, Omega.arith}
 use borrow.Author.Tests.{lt-ltb, le-ltb, ltb-true, ltb-false, eqb-false, ne_eqb}
-use lib.{Dec.eqb, Dec.ltb, IntN.ℤ, IntN.pos, IntN.negsuc, IntN.nat_abs, IntN.◌-ℤ◌, Signed.mag}
+use lib.{Dec.eqb, Dec.ltb, IntN.ℤ, IntN.pos, IntN.negsuc, IntN.nat_abs, Signed.mag}
 use lib.ListN.{length, get_or, take, drop, length-append}
+use Rattle.std.proofs.lemmas.Int.{ints}
+use Rattle.std.specs.Int.{cast_signed, cast_unsigned, int_max, w16}
 use Rattle.octets.specs.{Buffers.put, Digits.number, Digits.digits, Stream.Keystream, Stream.enciphered}
 use Rattle.octets.proofs.{Buffers.put_none, Streams.length_enciphered}
 use Rattle.octets.proofs.Numbers.{Below, number_below, digits_number, number_digits, length_digits}
 use Rattle.samples.specs.Words.{signed, unsigned, sample_of, plain_word, word_of, bytes_of, by_twos, words_of}
 use Rattle.samples.specs.Words.{NoLowest, bytes_of_all}
 
-pub minus_one_less : (k : ℕ) → negsuc 0 -ℤ pos k ≡ negsuc k
-minus_one_less zero = refl
-minus_one_less (suc k) = ap (λ (n : ℕ). negsuc (suc n)) (zero-add k)
-
-pub minus_one_more : (k : ℕ) → negsuc 0 -ℤ negsuc k ≡ pos k
-minus_one_more k = rw (le-ltb (suc k) 1 (omega arith)) (ap pos less)
+-- the library's words for both
+pub as_signed : (n : ℕ) → cast_signed w16 n ≡ signed n
+unfolding signed
+as_signed n = by_cond (ltb n 32768) refl
   where
-    less : suc k - 1 ≡ k
+    by_cond : (b : Bool) → ltb n 32768 ≡ b → cast_signed w16 n ≡ cond b (pos n) (negsuc (65535 - n))
+    by_cond true e = rw e refl
+    by_cond false e = rw e (ap negsuc same)
+      where
+        same : 65536 - suc n ≡ 65535 - n
+        same = omega arith
+
+pub as_unsigned : (z : ℤ) → cast_unsigned w16 z ≡ unsigned z
+unfolding unsigned
+as_unsigned (pos n) = refl
+as_unsigned (negsuc n) = less
+  where
+    less : 65536 - suc n ≡ 65535 - n
     less = omega arith
 
 -- every sample has its 16 bits, and no other number has them
@@ -75,6 +87,11 @@ read_good n = by_cond (eqb n 0x8000) refl
     by_cond : (b : Bool) → eqb n 0x8000 ≡ b → Good (cond b (negsuc 32766) (signed n))
     by_cond true e = omega arith
     by_cond false e = signed_good n (eqb-false n 0x8000 e)
+
+-- and it is the greater of their signed number and the lowest sample
+pub raised : (n : ℕ) → int_max (signed n) (negsuc 32766) ≡ sample_of n
+unfolding signed sample_of
+raised n = grind (arith, ints)
 
 -- but for 80 00, bits are read as their signed number
 pub read_signed : (n : ℕ) → n ≢ 0x8000 → sample_of n ≡ signed n

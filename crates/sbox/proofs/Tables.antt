@@ -3,24 +3,31 @@ use mathlib.Core.{Path.◌≡◌, Path.refl, Path.sym, Path.ap, Path.subst, Path
 use mathlib.Core.List.{List}
 use Prim.Native.Nat.{ℕ, ◌*◌, ◌/◌, ◌%◌, ◌<◌}
 use native.Mathlib.Omega.{arith}
-use borrow.Author.Tests.{ltb-true, ltb-false}
+use borrow.Author.Tests.{eqb-true, ltb-true, ltb-false}
 use lib.Bits.{bit_xor}
-use lib.Dec.{T, ltb, eqb, eqb→eq, ltb→lt}
+use lib.Dec.{ltb, eqb}
 use lib.ListN.{get_or, get_or-eq_default}
+use Rattle.std.proofs.lemmas.Bool.{agree_below, agree_below_at}
 use Rattle.sbox.specs.{Field.doubled, Field.twice, Field.fourfold, S8.small_box, S8.s4, S8.y0, S8.y1, S8.s8}
 use Rattle.sbox.specs.S8.{printed}
-use Rattle.sbox.proofs.Every.{every, for_each}
+
+-- a test passes for each number below n: whether it does is computed, once for all
+abbrev passes : ℕ → (ℕ → Bool) → Type 0
+passes n test = agree_below test (λ x. true) n ≡ true
+
+at_each : (n : ℕ) (test : ℕ → Bool) → passes n test → (x : ℕ) → x < n → test x ≡ true
+at_each n test all x h = agree_below_at test (λ x. true) n x all h
 
 -- an entry in print is the substitution of its index
 abbrev entry_right : ℕ → Bool
 entry_right i = eqb (get_or printed i 0) (s8 i)
 
-entries_right : T (every 256 entry_right)
+entries_right : passes 256 entry_right
 unfolding s8 y0 y1 doubled
-entries_right = tt
+entries_right = refl
 
 printed_right : (x : ℕ) → x < 256 → get_or printed x 0 ≡ s8 x
-printed_right x h = eqb→eq (get_or printed x 0) (s8 x) (for_each 256 entry_right entries_right x h)
+printed_right x h = eqb-true (get_or printed x 0) (s8 x) (at_each 256 entry_right entries_right x h)
 
 -- so what is looked up in a run that is the table is the substitution
 pub looked_up : (table : List ℕ) (x : ℕ) → table ≡ printed → x < 256 → get_or table x 0 ≡ s8 x
@@ -33,32 +40,32 @@ shifted bits x = bit_xor (x % 128 * 2) (x / 128 * bits)
 abbrev shift_right : ℕ → Bool
 shift_right x = eqb (shifted 29 x) (twice x)
 
-shifts_right : T (every 256 shift_right)
+shifts_right : passes 256 shift_right
 unfolding doubled
-shifts_right = tt
+shifts_right = refl
 
 pub shifted_right : (bits x : ℕ) → bits ≡ 29 → x < 256 → shifted bits x ≡ twice x
 shifted_right bits x e h =
-    ap (λ (p : ℕ). shifted p x) e ∙ eqb→eq (shifted 29 x) (twice x) (for_each 256 shift_right shifts_right x h)
+    ap (λ (p : ℕ). shifted p x) e ∙ eqb-true (shifted 29 x) (twice x) (at_each 256 shift_right shifts_right x h)
 
 -- ---- within a byte
 
-twice_small : T (every 256 (λ x. ltb (twice x) 256))
+twice_small : passes 256 (λ x. ltb (twice x) 256)
 unfolding doubled
-twice_small = tt
+twice_small = refl
 
 pub twice_below : (x : ℕ) → x < 256 → twice x < 256
-twice_below x h = ltb→lt (twice x) 256 (for_each 256 (λ x. ltb (twice x) 256) twice_small x h)
+twice_below x h = ltb-true (twice x) 256 (at_each 256 (λ x. ltb (twice x) 256) twice_small x h)
 
-s4_small : T (every 16 (λ x. ltb (s4 x) 16))
-s4_small = tt
+s4_small : passes 16 (λ x. ltb (s4 x) 16)
+s4_small = refl
 
 -- past its last entry S4 gives 0
 s4_below : (x : ℕ) → s4 x < 16
 s4_below x = go (ltb x 16) refl
   where
     go : (b : Bool) → ltb x 16 ≡ b → s4 x < 16
-    go true e = ltb→lt (s4 x) 16 (for_each 16 (λ x. ltb (s4 x) 16) s4_small x (ltb-true x 16 e))
+    go true e = ltb-true (s4 x) 16 (at_each 16 (λ x. ltb (s4 x) 16) s4_small x (ltb-true x 16 e))
     go false e = subst (λ (y : ℕ). y < 16) (sym (get_or-eq_default small_box 0 (ltb-false x 16 e))) (omega arith)
 
 y0_below : (x0 x1 : ℕ) → y0 x0 x1 < 16

@@ -1,11 +1,11 @@
 #![tactic(auto)]
 
-// The substitution S8 as its table in print, and doubling in the field of bytes.
+// The substitution S8, by its table in print, and doubling in the field of bytes.
 ghost use Rattle.std.specs.Prelude.{◌≡◌};
 ghost use Rattle.sbox.specs.Field as Field;
-ghost use Rattle.sbox.specs.S8 as Printed;
+ghost use Rattle.sbox.specs.S8 as Made;
 
-const S8: [u8; 256] = [
+static S8: [u8; 256] = [
     99, 82, 26, 223, 138, 246, 174, 85, 137, 231, 208, 45, 189, 1, 36, 120, 27, 217, 227, 84, 200,
     164, 236, 126, 171, 0, 156, 46, 145, 103, 55, 83, 78, 107, 108, 17, 178, 192, 130, 253, 57, 69,
     254, 155, 52, 215, 167, 8, 184, 154, 51, 198, 76, 29, 105, 161, 110, 62, 197, 10, 87, 244, 241,
@@ -21,12 +21,11 @@ const S8: [u8; 256] = [
     16, 50, 118, 180, 163, 63, 68, 129, 235,
 ];
 
-// The table. Whoever looks up many bytes makes it once and lends it: where a constant is indexed, all of it is written to
-// the stack each time.
-pub fn table() -> [u8; 256]
-    ensures { result ≡ Printed.printed }
+#[inline]
+pub fn s8(x: u8) -> u8
+    ensures { result ≡ Made.s8 x }
 {
-    S8
+    S8[x as usize]
 }
 
 // 0x02 times x: what no longer fits into eight bits comes back as the polynomial's lower bits.

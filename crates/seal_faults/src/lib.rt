@@ -4,30 +4,33 @@
 ghost use Rattle.std.specs.Prelude.{cond, ◌≡◌, ◌+◌, ◌*◌, ◌%◌, ◌≤◌, length};
 ghost use Rattle.pack.specs.Ciphers.{cipher_of};
 ghost use Rattle.pack.specs.Faults.{part_name_faults, seal_faults};
-ghost use Rattle.pack.specs.Layout.{parts, samples_good, loops_good, tag_length};
+ghost use Rattle.pack.specs.Layout.{samples_good, loops_good, tag_length};
+ghost use Rattle.refusals.specs.Answers.{number_in};
 ghost use Rattle.refusals.specs.Rules.{first};
+ghost use Rattle.seal_faults.specs.Sounds.{sound_parts, file_length};
 
 use pack::Kind;
+use refusals::Refusal;
+
+// A sound that is to be sealed: all parts of its pack that are told. The loops are starts and ends in turn.
+#[derive(Clone, Copy)]
+pub struct Sound<'a> {
+    pub name: &'a [u8],
+    pub key: u8,
+    pub value: &'a [u8],
+    pub samples: &'a [i16],
+    pub loops: &'a [u32],
+}
 
 // Whether each loop of an even run is in rule.
 fn loops_in_rule(loops: &[u32], samples: usize) -> bool
     requires { length loops.now % 2 ≡ 0 }
     ensures { result ≡ loops_good samples loops.now }
 {
-    let count = loops.len() / 2;
-    let mut i = 0;
-    while i < count {
-        let start = loops[2 * i] as usize;
-        let end = loops[2 * i + 1] as usize;
-        if end <= start {
-            return false;
-        }
-        if samples < end {
-            return false;
-        }
-        i += 1;
-    }
-    true
+    let (pairs, _) = loops.as_chunks::<2>();
+    pairs
+        .iter()
+        .all(|pair| pair[0] < pair[1] && pair[1] as usize <= samples)
 }
 
 // 1 if there is a sample that has no opposite, and 0 if each has one. All samples are looked at, whatever is found, and
@@ -35,83 +38,64 @@ fn loops_in_rule(loops: &[u32], samples: usize) -> bool
 fn lowest_found(samples: &[i16]) -> u16
     ensures { result ≡ cond (samples_good samples.now) 0 1 }
 {
-    let mut found: u16 = 0;
-    let mut i = 0;
-    while i < samples.len() {
-        if samples[i] == -32768 {
+    let mut found = 0;
+    for sample in samples {
+        if *sample == i16::MIN {
             found = 1;
         }
-        i += 1;
     }
     found
 }
 
-// The length of a file whose name, initial value, samples, run of loops and tag section have these lengths.
-fn file_length(name: usize, value: usize, samples: usize, loops: usize, tag: usize) -> usize
-    requires { (name ≤ 32) × (value + tag ≤ 21) × (samples ≤ 16384) × (loops ≤ 16) }
-    ensures { result ≡ 8 + name + value + 2 * samples + 4 * loops + tag }
+// The length of a sound's file, with a tag section of this length.
+fn file_length(sound: Sound, tag: usize) -> usize
+    requires { (length sound.name.now ≤ 32) × (length sound.value.now + tag ≤ 21)
+        × (length sound.samples.now ≤ 16384) × (length sound.loops.now ≤ 16) }
+    ensures { result ≡ file_length sound.entry tag }
 {
-    8 + name + value + 2 * samples + 4 * loops + tag
+    8 + sound.name.len() + sound.value.len() + 2 * sound.samples.len() + 4 * sound.loops.len() + tag
 }
 
 // What a name has wrong.
-pub fn name_fault(name: &[u8]) -> u8
-    ensures { result ≡ first (part_name_faults name.now) }
+pub fn name_fault(name: &[u8]) -> Result<(), Refusal>
+    ensures { number_in result ≡ first (part_name_faults name.now) }
 {
     if pack::MOST_NAME < name.len() {
-        return refusals::LONG_NAME;
+        return Err(Refusal::LongName);
     }
     if !pack::name_good(name) {
-        return refusals::BAD_NAME;
+        return Err(Refusal::BadName);
     }
-    refusals::ACCEPTED
+    Ok(())
 }
 
 // What the parts of a file have wrong, and whether the file has room.
-pub fn seal_fault(
-    kind: Kind,
-    name: &[u8],
-    key: u8,
-    value: &[u8],
-    samples: &[i16],
-    loops: &[u32],
-    room: usize,
-) -> u8
-    ensures { result ≡ first (seal_faults (cipher_of kind)
-        (parts name.now key value.now samples.now loops.now)
-        (8 + length name.now + length value.now + 2 * length samples.now
-        + 4 * length loops.now + tag_length (cipher_of kind)) room) }
+pub fn seal_fault(kind: Kind, sound: Sound, room: usize) -> Result<(), Refusal>
+    ensures { number_in result ≡ first (seal_faults (cipher_of kind) (sound_parts sound.entry)
+        (file_length sound.entry (tag_length (cipher_of kind))) room) }
 {
-    let fault = name_fault(name);
-    if fault != refusals::ACCEPTED {
-        return fault;
+    name_fault(sound.name)?;
+    if sound.value.len() != kind.value_bytes() {
+        return Err(Refusal::BadValue);
     }
-    let expected = pack::value_bytes(kind);
-    if value.len() != expected {
-        return refusals::BAD_VALUE;
+    if pack::LAST_KEY < sound.key {
+        return Err(Refusal::BadKeyNumber);
     }
-    if pack::LAST_KEY < key {
-        return refusals::BAD_KEY_NUMBER;
-    }
-    let lowest = lowest_found(samples) as usize;
-    if pack::MOST_SAMPLES < samples.len() {
-        return refusals::MANY_SAMPLES;
+    let lowest = lowest_found(sound.samples);
+    if pack::MOST_SAMPLES < sound.samples.len() {
+        return Err(Refusal::ManySamples);
     }
     if 0 < lowest {
-        return refusals::LOWEST_SAMPLE;
+        return Err(Refusal::LowestSample);
     }
-    if 2 * pack::MOST_LOOPS < loops.len() {
-        return refusals::MANY_LOOPS;
+    if 2 * pack::MOST_LOOPS < sound.loops.len() || sound.loops.len() % 2 != 0 {
+        return Err(Refusal::ManyLoops);
     }
-    if loops.len() % 2 != 0 {
-        return refusals::MANY_LOOPS;
+    if !loops_in_rule(sound.loops, sound.samples.len()) {
+        return Err(Refusal::BadLoop);
     }
-    if !loops_in_rule(loops, samples.len()) {
-        return refusals::BAD_LOOP;
+    if room < file_length(sound, kind.tag_length()) {
+        return Err(Refusal::NoRoom);
     }
-    let tag = pack::tag_length(kind);
-    if room < file_length(name.len(), value.len(), samples.len(), loops.len(), tag) {
-        return refusals::NO_ROOM;
-    }
-    refusals::ACCEPTED
+    Ok(())
 }

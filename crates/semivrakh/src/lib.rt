@@ -18,6 +18,8 @@ ghost use Rattle.receiver_bytes.specs.Calls.{receiver_make, reception, receiver_
 ghost use Rattle.link_status.specs.Calls.{sender_status, receiver_status};
 ghost use Rattle.semivrakh.specs.Version.{version};
 
+use refusals::number;
+
 // Ten thousand times the version's first number, a hundred times its second, and its third.
 const VERSION: u32 = 800;
 
@@ -33,7 +35,7 @@ pub extern "C" fn semivrakh_cipher_make(cipher: &mut [u8], key: &[u8], value: &[
     ensures { outcome result cipher.new
         ≡ cipher_make cipher.old key.now value.now }
 {
-    cipher_bytes::make(cipher, key, value)
+    number(cipher_bytes::make(cipher, key, value))
 }
 
 #[unsafe(no_mangle)]
@@ -45,7 +47,7 @@ pub extern "C" fn semivrakh_cipher_encipher(
     ensures { ciphered cipher.new output.new result
         ≡ cipher_encipher cipher.old input.now output.old }
 {
-    cipher_bytes::encipher(cipher, input, output)
+    number(cipher_bytes::encipher(cipher, input, output))
 }
 
 #[unsafe(no_mangle)]
@@ -53,7 +55,7 @@ pub extern "C" fn semivrakh_enocoro_make(cipher: &mut [u8], key: &[u8], value: &
     ensures { outcome result cipher.new
         ≡ enocoro_make cipher.old key.now value.now }
 {
-    enocoro_bytes::make(cipher, key, value)
+    number(enocoro_bytes::make(cipher, key, value))
 }
 
 #[unsafe(no_mangle)]
@@ -65,7 +67,7 @@ pub extern "C" fn semivrakh_enocoro_encipher(
     ensures { ciphered cipher.new output.new result
         ≡ enocoro_encipher cipher.old input.now output.old }
 {
-    enocoro_bytes::encipher(cipher, input, output)
+    number(enocoro_bytes::encipher(cipher, input, output))
 }
 
 #[unsafe(no_mangle)]
@@ -73,7 +75,7 @@ pub extern "C" fn semivrakh_triad_make(cipher: &mut [u8], key: &[u8], value: &[u
     ensures { outcome result cipher.new
         ≡ triad_make cipher.old key.now value.now }
 {
-    triad_bytes::make(cipher, key, value)
+    number(triad_bytes::make(cipher, key, value))
 }
 
 #[unsafe(no_mangle)]
@@ -81,7 +83,7 @@ pub extern "C" fn semivrakh_triad_encipher(cipher: &mut [u8], input: &[u8], outp
     ensures { ciphered cipher.new output.new result
         ≡ triad_encipher cipher.old input.now output.old }
 {
-    triad_bytes::encipher(cipher, input, output)
+    number(triad_bytes::encipher(cipher, input, output))
 }
 
 #[unsafe(no_mangle)]
@@ -95,7 +97,7 @@ pub extern "C" fn semivrakh_triad_tag(
     ensures { outcome result tag.new ≡ triad_tag key.now value.now
         associated.now message.now tag.old }
 {
-    triad_bytes::tag(key, value, associated, message, tag)
+    number(triad_bytes::tag(key, value, associated, message, tag))
 }
 
 #[unsafe(no_mangle)]
@@ -108,7 +110,7 @@ pub extern "C" fn semivrakh_pack_open(
     ensures { pack_opened samples.new answer.new result
         ≡ pack_open file.now keys.now samples.old answer.old }
 {
-    pack_bytes::open(file, keys, samples, answer)
+    number(pack_bytes::open(file, keys, samples, answer))
 }
 
 #[unsafe(no_mangle)]
@@ -121,14 +123,14 @@ pub extern "C" fn semivrakh_pack_open_stereo(
     ensures { pack_opened frames.new answer.new result
         ≡ pack_open_stereo file.now keys.now frames.old answer.old }
 {
-    stereo_bytes::open(file, keys, frames, answer)
+    number(stereo_bytes::open(file, keys, frames, answer))
 }
 
 #[unsafe(no_mangle)]
 pub extern "C" fn semivrakh_pack_survey(file: &[u8], answer: &mut [usize]) -> u8
     ensures { outcome result answer.new ≡ pack_survey file.now answer.old }
 {
-    survey_bytes::survey(file, answer)
+    number(survey_bytes::survey(file, answer))
 }
 
 #[unsafe(no_mangle)]
@@ -143,7 +145,7 @@ pub extern "C" fn semivrakh_pack_loops(file: &[u8], loops: &mut [u32], written: 
     ensures { wrote loops.new written.new result
         ≡ pack_loops file.now loops.old written.old }
 {
-    survey_bytes::loops(file, loops, written)
+    number(survey_bytes::loops(file, loops, written))
 }
 
 #[unsafe(no_mangle)]
@@ -163,9 +165,9 @@ pub extern "C" fn semivrakh_pack_seal(
         (parts name.now key value.now samples.now loops.now)
         output.old written.old }
 {
-    pack_bytes::seal(
+    number(pack_bytes::seal(
         name, keys, cipher, key, value, samples, loops, output, written,
-    )
+    ))
 }
 
 #[unsafe(no_mangle)]
@@ -173,14 +175,14 @@ pub extern "C" fn semivrakh_sender_make(sender: &mut [u8], key: &[u8], pair: &[u
     ensures { outcome result sender.new
         ≡ sender_make sender.old key.now pair.now }
 {
-    sender_bytes::make(sender, key, pair)
+    number(sender_bytes::make(sender, key, pair))
 }
 
 #[unsafe(no_mangle)]
 pub extern "C" fn semivrakh_sender_begin(sender: &mut [u8], sound: &[u8]) -> u8
     ensures { outcome result sender.new ≡ sender_begin sender.old sound.now }
 {
-    sender_bytes::begin(sender, sound)
+    number(sender_bytes::begin(sender, sound))
 }
 
 #[unsafe(no_mangle)]
@@ -193,21 +195,21 @@ pub extern "C" fn semivrakh_sender_send(
     ensures { wrote frame.new written.new result
         ≡ sender_send sender.now sound.now frame.old written.old }
 {
-    sender_bytes::send(sender, sound, frame, written)
+    number(sender_bytes::send(sender, sound, frame, written))
 }
 
 #[unsafe(no_mangle)]
 pub extern "C" fn semivrakh_sender_hear(sender: &mut [u8], frame: &[u8]) -> u8
     ensures { outcome result sender.new ≡ sender_hear sender.old frame.now }
 {
-    sender_bytes::hear(sender, frame)
+    number(sender_bytes::hear(sender, frame))
 }
 
 #[unsafe(no_mangle)]
 pub extern "C" fn semivrakh_sender_status(sender: &[u8], answer: &mut [usize]) -> u8
     ensures { outcome result answer.new ≡ sender_status sender.now answer.old }
 {
-    link_status::sender_status(sender, answer)
+    number(link_status::sender_status(sender, answer))
 }
 
 #[unsafe(no_mangle)]
@@ -215,7 +217,7 @@ pub extern "C" fn semivrakh_receiver_make(receiver: &mut [u8], key: &[u8], pair:
     ensures { outcome result receiver.new
         ≡ receiver_make receiver.old key.now pair.now }
 {
-    receiver_bytes::make(receiver, key, pair)
+    number(receiver_bytes::make(receiver, key, pair))
 }
 
 #[unsafe(no_mangle)]
@@ -230,12 +232,12 @@ pub extern "C" fn semivrakh_receiver_hear(
         ≡ receiver_hear receiver.old frame.now sound.old answer.old
         written.old }
 {
-    receiver_bytes::hear(receiver, frame, sound, answer, written)
+    number(receiver_bytes::hear(receiver, frame, sound, answer, written))
 }
 
 #[unsafe(no_mangle)]
 pub extern "C" fn semivrakh_receiver_status(receiver: &[u8], answer: &mut [usize]) -> u8
     ensures { outcome result answer.new ≡ receiver_status receiver.now answer.old }
 {
-    link_status::receiver_status(receiver, answer)
+    number(link_status::receiver_status(receiver, answer))
 }

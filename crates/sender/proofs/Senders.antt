@@ -1,19 +1,22 @@
 -- How many bytes are due in each phase, and what a sender that isn't refused is doing.
-use mathlib.Core.{Path.◌≡◌, Path.refl, Path.sym, Path.ap, Path.ap₂, Path.◌∙◌, Bool.true, List.List}
-use Prim.Native.Nat.{ℕ, ◌+◌, ◌-◌, ◌<◌, ◌≤◌}
+use mathlib.Core.{Path.◌≡◌, Path.refl, Path.sym, Path.ap, Path.ap₂, Path.◌∙◌, Bool.true, Bool.false, List.List, List.[], List.◌∷◌}
+use Prim.Native.Nat.{ℕ, ◌+◌, ◌<◌, ◌≤◌}
 use native.Mathlib.Omega.{arith}
-use borrow.Author.Tests.{leb-true, ltb-true}
-use lib.{Dec.leb, ListN.length}
-use Rattle.octets.specs.{Buffers.put, Stream.Cipher}
+use borrow.Author.Tests.{le-leb}
+use lib.ListN.{length}
+use Rattle.std.specs.Prelude.{Option, Some, None, Ok, Err}
+use Rattle.std.specs.Option.{is_some}
+use Rattle.octets.specs.{Buffers.put, Rows.row, Stream.Cipher}
 use Rattle.octets.proofs.Buffers.{put_placed}
-use Rattle.refusals.specs.{Outcome.outcome, Rules.AllRight}
-use Rattle.refusals.proofs.{Settled.done_if, Tests.and_first, Tests.and_second}
-use Rattle.blocks.specs.{Blocks.longest, Blocks.blocks, Blocks.size, Blocks.block_of, Covering.covered}
+use Rattle.refusals.specs.{Numbers.no_transfer, Outcome.outcome, Rules.AllRight, Answers.number_of}
+use Rattle.refusals.specs.{declared.Refusal.Refusal, declared.Refusal.TheVariants.NoTransfer}
+use Rattle.refusals.proofs.{Settled.done_if}
+use Rattle.blocks.specs.{Blocks.longest, Blocks.size, Blocks.block_of, Covering.covered}
 use Rattle.blocks.proofs.Covering.{length_run}
 use Rattle.frames.specs.Frames.{opening, bytes}
 use Rattle.frames.proofs.FramesWritten.{length_short, short_opening, length_block}
 use Rattle.sender.specs.{Rules.phase_in_rule, Rules.sender_in_rule, declared.Phase.Phase, declared.Sender.Sender}
-use Rattle.sender.specs.{declared.Sent.Sent}
+use Rattle.sender.specs.Answers.{Sent, known_in, due_count, news}
 use Rattle.sender.specs.Sender.{is_under_way, news_count, block_frame, due_in, send_faults, sending}
 use Rattle.sender.specs.declared.Phase.TheVariants.{Idle, Opening, Sending, Done, Refused}
 
@@ -26,39 +29,63 @@ length_block_frame cipher s sound k =
     length_block s.session k (covered cipher s.key s.pair s.session k (block_of sound k))
     ∙ ap (λ (n : ℕ). 8 + n) (length_run cipher s.key s.pair s.session k sound)
 
+-- ---- the record in rule, test by test
+
+module _ (s : Sender) {phase : Phase} (e : s.phase ≡ phase) where
+  pub phase_rule : s.length ≤ longest → phase_in_rule s.session s.length phase ≡ sender_in_rule s
+  unfolding sender_in_rule
+  phase_rule short = rw (← e, le-leb s.length longest short)
+
 -- ---- a transfer under way
 
-pub opening_if : (p : Phase) → is_under_way p ≡ true → news_count p ≡ 0 → p ≡ Opening
-opening_if Idle u e = cc
-opening_if Opening u e = refl
-opening_if (Sending known) u e = absurd (omega arith)
-opening_if Done u e = cc
-opening_if (Refused why) u e = cc
+-- the phase in which so many blocks are known
+abbrev pub phase_of : Option ℕ → Phase
+phase_of None = Opening
+phase_of (Some known) = Sending known
 
-pub sending_if : (p : Phase) → is_under_way p ≡ true → 0 < news_count p → p ≡ Sending (news_count p - 1)
-sending_if Idle u h = cc
-sending_if Opening u h = absurd (omega arith)
-sending_if (Sending known) u h = ap Sending same
-  where
-    same : known ≡ known + 1 - 1
-    same = omega arith
-sending_if Done u h = cc
-sending_if (Refused why) u h = cc
+pub none_under_way : (p : Phase) {refusal : Refusal} → known_in p ≡ Err refusal
+    → (is_under_way p ≡ false) × (number_of refusal ≡ no_transfer)
+none_under_way Idle {refusal} e = let this : refusal ≡ NoTransfer = cc in (refl, ap number_of this)
+none_under_way Opening e = absurd cc
+none_under_way (Sending known) e = absurd cc
+none_under_way Done {refusal} e = let this : refusal ≡ NoTransfer = cc in (refl, ap number_of this)
+none_under_way (Refused why) {refusal} e = let this : refusal ≡ NoTransfer = cc in (refl, ap number_of this)
 
--- in rule, a count that would be news is at most that of all blocks
-pub news_below : (s : Sender) → sender_in_rule s ≡ true → news_count s.phase ≤ blocks longest
-unfolding sender_in_rule phase_in_rule
-news_below s e =
-    let short = leb-true s.length longest (and_first (leb s.length longest) _ e) in
-    go s.phase (omega arith) (and_second (leb s.length longest) _ e)
-  where
-    go : (p : Phase) → s.length ≤ longest → phase_in_rule s.session s.length p ≡ true → news_count p ≤ blocks longest
-    go Idle h r = omega arith
-    go Opening h r = omega arith
-    go (Sending known) h r =
-        let below = ltb-true known (blocks s.length) (and_second (leb 1 s.session) _ r) in omega arith
-    go Done h r = omega arith
-    go (Refused why) h r = omega arith
+pub one_under_way : (p : Phase) {known : Option ℕ} → known_in p ≡ Ok known
+    → (is_under_way p ≡ true) × ((p ≡ phase_of known) × (news_count p ≡ news known))
+one_under_way Idle e = absurd cc
+one_under_way Opening {known} e = let same : None ≡ known = cc in (refl, (ap phase_of same, ap news same))
+one_under_way (Sending k) {known} e = let same : Some k ≡ known = cc in (refl, (ap phase_of same, ap news same))
+one_under_way Done e = absurd cc
+one_under_way (Refused why) e = absurd cc
+
+-- with a count known some count is news, and without one none
+pub news_some : (known : Option ℕ) → true ≡ is_some known → 0 < news known
+news_some None e = absurd cc
+news_some (Some known) e = omega arith
+
+pub news_none : (known : Option ℕ) → false ≡ is_some known → news known ≡ 0
+news_none None e = refl
+news_none (Some known) e = absurd cc
+
+-- how many bytes are due
+pub length_due : (cipher : Cipher) (s : Sender) (sound : List ℕ) (known : Option ℕ) → s.phase ≡ phase_of known
+    → length sound ≡ s.length → due_count s known ≡ length (due_in cipher s sound s.phase)
+unfolding due_in
+length_due cipher s sound None e same = rw e (sym (length_opening s.session s.length))
+length_due cipher s sound (Some known) e same =
+    rw e
+    (ap (λ (n : ℕ). 8 + size n known) (sym same) ∙ sym (length_block_frame cipher s sound known))
+
+pub due_opening : (cipher : Cipher) (s : Sender) (sound : List ℕ) → s.phase ≡ Opening
+    → row (1 ∷ 4 ∷ 4 ∷ []) (1 ∷ s.session ∷ s.length ∷ []) ≡ due_in cipher s sound s.phase
+unfolding due_in
+due_opening cipher s sound e = rw e (short_opening s.session s.length)
+
+pub due_block : (cipher : Cipher) (s : Sender) (sound : List ℕ) {known : ℕ} → s.phase ≡ Sending known
+    → bytes (block_frame cipher s sound known) ≡ due_in cipher s sound s.phase
+unfolding due_in
+due_block cipher s sound e = rw e
 
 -- what is due, written with room, is sent
 pub sent_so : (cipher : Cipher) (s : Sender) (sound frame : List ℕ) {n : ℕ} {after : List ℕ}

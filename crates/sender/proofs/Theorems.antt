@@ -6,7 +6,7 @@ use Rattle.octets.specs.Stream.{Cipher}
 use Rattle.refusals.specs.{Outcome.Outcome, Outcome.outcome, Rules.Leaves}
 use Rattle.refusals.proofs.Settled.{done_if, by_settled, settled_leaves}
 use Rattle.names.specs.Naming.{key_bytes, pair_bytes, no_key, no_pair}
-use Rattle.sender.specs.{declared.Sender.Sender, declared.Sent.Sent}
+use Rattle.sender.specs.{declared.Sender.Sender, Answers.Sent}
 use Rattle.sender.specs.Sender.{fresh_sender, agreed, refused, making_sender, beginning, sending, hearing}
 
 pub making_leaves : (key pair : List ℕ)

@@ -11,7 +11,7 @@ use Rattle.blocks.specs.{Blocks.longest, Blocks.blocks, Blocks.block_of, Coverin
 use Rattle.names.specs.Naming.{name_faults, no_key, no_pair}
 use Rattle.frames.specs.Frames.{Frame, opening, block, holds, too_long, bytes, Heard, it, no_frame, heard}
 use Rattle.sender.specs.{Rules.sender_in_rule, declared.Phase.Phase, declared.Reason.TheVariants.TooLong}
-use Rattle.sender.specs.{declared.Sender.Sender, declared.SenderAnswer.SenderAnswer, declared.Sent.Sent}
+use Rattle.sender.specs.{declared.Sender.Sender, Answers.SenderAnswer, Answers.Sent}
 use Rattle.sender.specs.declared.Phase.TheVariants.{Idle, Opening, Sending, Done, Refused}
 
 -- a fresh sender is idle

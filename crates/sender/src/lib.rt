@@ -1,16 +1,16 @@
 #![tactic(auto)]
 
-ghost use Rattle.std.specs.Prelude.{◌≡◌, List, cond, not, ℕ, length};
-ghost use Rattle.refusals.specs.Numbers.{accepted, no_transfer, out_of_rule};
+ghost use Rattle.std.specs.Prelude.{◌≡◌};
 ghost use Rattle.refusals.specs.Outcome.{outcome};
-ghost use Rattle.refusals.specs.Rules.{first};
 ghost use Rattle.trivium.specs.Keystream.{trivium};
+ghost use Rattle.names.specs.Naming.{no_key, no_pair};
+ghost use Rattle.sender.specs.Answers.{answer_of, sent_of, known_in, answered, due_count, news};
 ghost use Rattle.sender.specs.Rules.{sender_in_rule};
-ghost use Rattle.frames.specs.Told.{heard_as};
-ghost use Rattle.sender.specs.Sender.{in_phase, is_under_way, news_count, making_sender, beginning};
-ghost use Rattle.sender.specs.Sender.{due_in, sending, hear_faults, informed, hearing};
+ghost use Rattle.sender.specs.Sender.{fresh_sender, making_sender, beginning, sending, hearing};
 
-use frames::Told;
+use frames::{FrameKind, Told};
+use names::Names;
+use refusals::Refusal;
 
 // Why a sender's transfer was refused by the other end.
 #[derive(Clone, Copy)]
@@ -37,295 +37,154 @@ pub struct Sender {
     pub phase: Phase,
 }
 
-// The answers. A refusal of 0 says that the call was not refused, and a length is that of the frame that was written.
-#[derive(Clone, Copy)]
-pub struct SenderAnswer {
-    pub refusal: u8,
-    pub sender: Sender,
-}
-
-#[derive(Clone, Copy)]
-pub struct Sent {
-    pub refusal: u8,
-    pub length: usize,
-    pub sender: Sender,
-}
-
-// What a record's phase says: whether the record is in rule, whether a transfer is under way, the count of blocks that
-// would be news, and how many bytes are due.
-#[derive(Clone, Copy)]
-struct Stage {
-    in_rule: bool,
-    under_way: bool,
-    new_count: u32,
-    due: usize,
-}
-
-const LAST_SESSION: u32 = 4294967295;
-
-// A rule of a call that was looked at already: whether it is broken, and the number for no if it is.
-#[derive(Clone, Copy)]
-struct Verdict {
-    broken: bool,
-    number: u8,
-}
-
-// The number of the first broken rule of a call that asks for a transfer under way and then has two rules of its own,
-// or 0.
-fn transfer_fault(stage: Stage, own: Verdict, last: Verdict) -> u8
-    ensures { result ≡ cond (not stage.in_rule) out_of_rule (cond (not stage.under_way) no_transfer
-        (cond own.broken own.number (cond last.broken last.number accepted))) }
+// The count of held blocks that would be news: one more than known, and none while the transfer opens.
+fn news(known: Option<u16>) -> u32
+    ensures { result ≡ news known }
 {
-    let in_rule = stage.in_rule;
-    if !in_rule {
-        return refusals::OUT_OF_RULE;
-    }
-    let under_way = stage.under_way;
-    if !under_way {
-        return refusals::NO_TRANSFER;
-    }
-    let own_broken = own.broken;
-    if own_broken {
-        return own.number;
-    }
-    let last_broken = last.broken;
-    if last_broken {
-        return last.number;
-    }
-    refusals::ACCEPTED
+    known.map_or(0, |known| u32::from(known) + 1)
 }
 
 impl Sender {
     // A sender with a key of ten bytes and a pair name of six.
-    pub fn new(key: &[u8], pair: &[u8]) -> SenderAnswer
-        ensures { result ≡ making_sender key.now pair.now }
+    pub fn new(key: &[u8], pair: &[u8]) -> Result<Sender, Refusal>
+        ensures { answer_of (fresh_sender no_key no_pair) result ≡ making_sender key.now pair.now }
     {
-        let names = names::check_names(key, pair);
-        let own_key = names.key;
-        let own_pair = names.pair;
-        SenderAnswer {
-            refusal: names.refusal,
-            sender: Sender {
-                key: own_key,
-                pair: own_pair,
-                session: 0,
-                length: 0,
-                phase: Phase::Idle,
-            },
-        }
-    }
-
-    fn stage(self) -> Stage
-        ensures { (result.in_rule ≡ sender_in_rule self) × (result.under_way ≡ is_under_way self.phase)
-            × (result.new_count ≡ news_count self.phase)
-            × ((sound : List ℕ) → length sound ≡ self.length → result.due ≡ length (due_in trivium self sound self.phase)) }
-    {
-        let length = self.length;
-        let session = self.session;
-        let phase = self.phase;
-        let begun = 1 <= session;
-        let short = (length as usize) <= blocks::MOST_BYTES;
-        match phase {
-            Phase::Idle => Stage {
-                in_rule: short,
-                under_way: false,
-                new_count: 0,
-                due: 0,
-            },
-            Phase::Opening => Stage {
-                in_rule: short & begun,
-                under_way: true,
-                new_count: 0,
-                due: 9,
-            },
-            Phase::Sending(known) => Stage {
-                in_rule: short & (begun & ((known as u32) < blocks::block_count(length))),
-                under_way: true,
-                new_count: (known as u32) + 1,
-                due: 8 + blocks::block_size(length as usize, known),
-            },
-            _ => Stage {
-                in_rule: short & begun,
-                under_way: false,
-                new_count: 0,
-                due: 0,
-            },
-        }
+        let Names { key, pair } = names::check_names(key, pair)?;
+        Ok(Sender {
+            key,
+            pair,
+            session: 0,
+            length: 0,
+            phase: Phase::Idle,
+        })
     }
 
     // Whether the record is in rule.
     pub fn in_rule(self) -> bool
         ensures { result ≡ sender_in_rule self }
     {
-        let stage = self.stage();
-        stage.in_rule
+        let begun = 1 <= self.session;
+        self.length as usize <= blocks::MOST_BYTES
+            && match self.phase {
+                Phase::Idle => true,
+                Phase::Sending(known) => {
+                    begun && u32::from(known) < blocks::block_count(self.length)
+                }
+                Phase::Opening | Phase::Done | Phase::Refused(_) => begun,
+            }
+    }
+
+    // The count that is known of a transfer under way: none yet while it opens.
+    fn known(self) -> Result<Option<u16>, Refusal>
+        ensures { result ≡ known_in self.phase }
+    {
+        match self.phase {
+            Phase::Opening => Ok(None),
+            Phase::Sending(known) => Ok(Some(known)),
+            Phase::Idle | Phase::Done | Phase::Refused(_) => Err(Refusal::NoTransfer),
+        }
+    }
+
+    // The same, where the other end answers in this session.
+    fn answered(self, session: u32) -> Result<Option<u16>, Refusal>
+        ensures { result ≡ answered self session }
+    {
+        let known = self.known()?;
+        if session != self.session {
+            return Err(Refusal::OtherSession);
+        }
+        Ok(known)
+    }
+
+    // How many bytes the next frame has: the opening, or the block behind those that are known to be held.
+    fn due(self, known: Option<u16>) -> usize
+        ensures { result ≡ due_count self known }
+    {
+        match known {
+            None => 9,
+            Some(known) => 8 + blocks::block_size(self.length as usize, known),
+        }
     }
 
     // Begins a transfer of this sound, of which only the length counts here.
-    pub fn begin(self, sound: &[u8]) -> SenderAnswer
-        ensures { result ≡ beginning self sound.now }
+    pub fn begin(self, sound: &[u8]) -> Result<Sender, Refusal>
+        ensures { answer_of self result ≡ beginning self sound.now }
     {
-        let stage = self.stage();
-        let in_rule = stage.in_rule;
-        if !in_rule {
-            return SenderAnswer {
-                refusal: refusals::OUT_OF_RULE,
-                sender: self,
-            };
+        if !self.in_rule() {
+            return Err(Refusal::OutOfRule);
         }
-        let n = sound.len();
-        if blocks::MOST_BYTES < n {
-            return SenderAnswer {
-                refusal: refusals::LONG_SOUND,
-                sender: self,
-            };
+        if blocks::MOST_BYTES < sound.len() {
+            return Err(Refusal::LongSound);
         }
-        let session = self.session;
-        if session == LAST_SESSION {
-            return SenderAnswer {
-                refusal: refusals::NO_SESSION,
-                sender: self,
-            };
-        }
-        let key = self.key;
-        let pair = self.pair;
-        SenderAnswer {
-            refusal: refusals::ACCEPTED,
-            sender: Sender {
-                key,
-                pair,
-                session: session + 1,
-                length: n as u32,
-                phase: Phase::Opening,
-            },
-        }
+        let session = self.session.checked_add(1).ok_or(Refusal::NoSession)?;
+        Ok(Sender {
+            session,
+            length: sound.len() as u32,
+            phase: Phase::Opening,
+            ..self
+        })
     }
 
-    // Writes the opening frame, or block number "known", of a sound lent anew. The record doesn't change.
-    pub fn send(self, sound: &[u8], frame: &mut [u8]) -> Sent
-        ensures { outcome result frame.new ≡ sending trivium self sound.now frame.old }
+    // Writes the opening frame, or block number "known", of a sound lent anew, and answers its length. The record doesn't
+    // change.
+    pub fn send(self, sound: &[u8], frame: &mut [u8]) -> Result<usize, Refusal>
+        ensures { outcome (sent_of self result) frame.new ≡ sending trivium self sound.now frame.old }
     {
-        let stage = self.stage();
-        let refusal = transfer_fault(
-            stage,
-            Verdict {
-                broken: sound.len() != self.length as usize,
-                number: refusals::WRONG_SOUND,
-            },
-            Verdict {
-                broken: frame.len() < stage.due,
-                number: refusals::NO_ROOM,
-            },
-        );
-        if refusal != refusals::ACCEPTED {
-            return Sent {
-                refusal,
-                length: 0,
-                sender: self,
-            };
+        if !self.in_rule() {
+            return Err(Refusal::OutOfRule);
         }
-        let session = self.session;
-        let new_count = stage.new_count;
-        if new_count == 0 {
-            frames::write_short(frame, frames::OPENING, session, 4, self.length as u64);
-        } else {
-            let known = (new_count - 1) as u16;
-            let key = self.key;
-            let pair = self.pair;
-            frames::write_block(&key, &pair, session, known, sound, frame);
+        let known = self.known()?;
+        if sound.len() != self.length as usize {
+            return Err(Refusal::WrongSound);
         }
-        Sent {
-            refusal: refusals::ACCEPTED,
-            length: stage.due,
-            sender: self,
+        let due = self.due(known);
+        if frame.len() < due {
+            return Err(Refusal::NoRoom);
         }
-    }
-
-    // Why a frame can't be heard now, or 0.
-    fn hear_fault(self, what: Told) -> u8
-        ensures { (run : List ℕ) → result ≡ first (hear_faults self (heard_as run what)) }
-    {
-        let stage = self.stage();
-        match what {
-            Told::Holds(session, held) => transfer_fault(
-                stage,
-                Verdict {
-                    broken: session != self.session,
-                    number: refusals::OTHER_SESSION,
-                },
-                Verdict {
-                    broken: stage.new_count < held as u32,
-                    number: refusals::IMPOSSIBLE,
-                },
-            ),
-            Told::TooLong(named) => transfer_fault(
-                stage,
-                Verdict {
-                    broken: named != self.session,
-                    number: refusals::OTHER_SESSION,
-                },
-                Verdict {
-                    broken: 0 < stage.new_count,
-                    number: refusals::IMPOSSIBLE,
-                },
-            ),
-            _ => {
-                let in_rule = stage.in_rule;
-                if !in_rule {
-                    return refusals::OUT_OF_RULE;
-                }
-                refusals::NOT_A_FRAME
+        match known {
+            None => {
+                let length = u64::from(self.length);
+                frames::write_short(frame, FrameKind::Opening as u64, self.session, 4, length);
+            }
+            Some(known) => {
+                frames::write_block(&self.key, &self.pair, self.session, known, sound, frame);
             }
         }
+        Ok(due)
     }
 
-    // The phase once a frame was heard: Holds of the new count is news, and less is old news.
-    fn informed(self, what: Told) -> Phase
-        ensures { (run : List ℕ) → in_phase self result ≡ informed self (heard_as run what) }
+    // Hears an answer of the receiver: Holds of the new count is news, and less is old news.
+    pub fn hear(self, frame: &[u8]) -> Result<Sender, Refusal>
+        ensures { answer_of self result ≡ hearing self frame.now }
     {
-        let stage = self.stage();
-        let new_count = stage.new_count;
-        let length = self.length;
-        match what {
-            Told::Holds(_, held) => {
-                let count = held as u32;
+        if !self.in_rule() {
+            return Err(Refusal::OutOfRule);
+        }
+        match frames::read(frame).ok_or(Refusal::NotAFrame)? {
+            Told::Holds(session, held) => {
+                let new_count = news(self.answered(session)?);
+                let count = u32::from(held);
+                if new_count < count {
+                    return Err(Refusal::Impossible);
+                }
                 if count < new_count {
-                    return self.phase;
+                    return Ok(self);
                 }
-                if count < blocks::block_count(length) {
-                    return Phase::Sending(held);
-                }
-                Phase::Done
+                let phase = if count < blocks::block_count(self.length) {
+                    Phase::Sending(held)
+                } else {
+                    Phase::Done
+                };
+                Ok(Sender { phase, ..self })
             }
-            Told::TooLong(_) => Phase::Refused(Reason::TooLong),
-            _ => self.phase,
-        }
-    }
-
-    // Hears an answer of the receiver.
-    pub fn hear(self, frame: &[u8]) -> SenderAnswer
-        ensures { result ≡ hearing self frame.now }
-    {
-        let told = frames::read(frame);
-        let refusal = self.hear_fault(told);
-        if refusal != refusals::ACCEPTED {
-            return SenderAnswer {
-                refusal,
-                sender: self,
-            };
-        }
-        let phase = self.informed(told);
-        let key = self.key;
-        let pair = self.pair;
-        SenderAnswer {
-            refusal: refusals::ACCEPTED,
-            sender: Sender {
-                key,
-                pair,
-                session: self.session,
-                length: self.length,
-                phase,
-            },
+            Told::TooLong(session) => {
+                if self.answered(session)?.is_some() {
+                    return Err(Refusal::Impossible);
+                }
+                let phase = Phase::Refused(Reason::TooLong);
+                Ok(Sender { phase, ..self })
+            }
+            Told::Opening(..) | Told::Block(..) => Err(Refusal::NotAFrame),
         }
     }
 }

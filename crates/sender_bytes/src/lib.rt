@@ -3,66 +3,50 @@
 // The sender for callers in other languages, who keep its record as bytes. A refused call writes nothing of all that it
 // was lent.
 ghost use Rattle.std.specs.Prelude.{◌≡◌};
+ghost use Rattle.refusals.specs.Answers.{number_in};
 ghost use Rattle.refusals.specs.Outcome.{outcome};
 ghost use Rattle.record_bytes.specs.Written.{wrote};
 ghost use Rattle.sender_bytes.specs.Calls.{sender_make, sender_begin, sender_send, sender_hear};
 
+use refusals::Refusal;
 use sender::Sender;
 
-pub fn make(sender: &mut [u8], key: &[u8], pair: &[u8]) -> u8
-    ensures { outcome result sender.new ≡ sender_make sender.old key.now pair.now }
+pub fn make(sender: &mut [u8], key: &[u8], pair: &[u8]) -> Result<(), Refusal>
+    ensures { outcome (number_in result) sender.new ≡ sender_make sender.old key.now pair.now }
 {
-    let made = Sender::new(key, pair);
-    let refusal = made.refusal;
-    if refusal != refusals::ACCEPTED {
-        return refusal;
-    }
+    let made = Sender::new(key, pair)?;
     if sender.len() < sender_record::SENDER_BYTES {
-        return refusals::NO_ROOM;
+        return Err(Refusal::NoRoom);
     }
-    let fresh = made.sender;
-    sender_record::write_sender(sender, fresh);
-    refusals::ACCEPTED
+    sender_record::write_sender(sender, made);
+    Ok(())
 }
 
-pub fn begin(sender: &mut [u8], sound: &[u8]) -> u8
-    ensures { outcome result sender.new ≡ sender_begin sender.old sound.now }
+pub fn begin(sender: &mut [u8], sound: &[u8]) -> Result<(), Refusal>
+    ensures { outcome (number_in result) sender.new ≡ sender_begin sender.old sound.now }
 {
-    let record = sender_record::sender_in(sender);
-    let begun = record.begin(sound);
-    let refusal = begun.refusal;
-    if refusal != refusals::ACCEPTED {
-        return refusal;
-    }
-    let next = begun.sender;
-    sender_record::write_sender(sender, next);
-    refusals::ACCEPTED
+    let begun = sender_record::sender_in(sender).begin(sound)?;
+    sender_record::write_sender(sender, begun);
+    Ok(())
 }
 
-pub fn send(sender: &[u8], sound: &[u8], frame: &mut [u8], written: &mut usize) -> u8
-    ensures { wrote frame.new written.new result
+pub fn send(
+    sender: &[u8],
+    sound: &[u8],
+    frame: &mut [u8],
+    written: &mut usize,
+) -> Result<(), Refusal>
+    ensures { wrote frame.new written.new (number_in result)
         ≡ sender_send sender.now sound.now frame.old written.old }
 {
-    let record = sender_record::sender_in(sender);
-    let sent = record.send(sound, frame);
-    let refusal = sent.refusal;
-    if refusal != refusals::ACCEPTED {
-        return refusal;
-    }
-    *written = sent.length;
-    refusals::ACCEPTED
+    *written = sender_record::sender_in(sender).send(sound, frame)?;
+    Ok(())
 }
 
-pub fn hear(sender: &mut [u8], frame: &[u8]) -> u8
-    ensures { outcome result sender.new ≡ sender_hear sender.old frame.now }
+pub fn hear(sender: &mut [u8], frame: &[u8]) -> Result<(), Refusal>
+    ensures { outcome (number_in result) sender.new ≡ sender_hear sender.old frame.now }
 {
-    let record = sender_record::sender_in(sender);
-    let heard = record.hear(frame);
-    let refusal = heard.refusal;
-    if refusal != refusals::ACCEPTED {
-        return refusal;
-    }
-    let next = heard.sender;
-    sender_record::write_sender(sender, next);
-    refusals::ACCEPTED
+    let informed = sender_record::sender_in(sender).hear(frame)?;
+    sender_record::write_sender(sender, informed);
+    Ok(())
 }

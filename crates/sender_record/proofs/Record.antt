@@ -1,11 +1,12 @@
 -- A sender's bytes read back are the sender, and bytes that are a sender, read and written, are the same bytes: by the
 -- laws of fronts and of rows, and phase by phase.
 use mathlib.Core.Path.{◌≡◌, refl, sym, ap, ap₂, ◌∙◌}
-use mathlib.Core.Bool.{Bool, true, false, ◌&&◌, ◌||◌}
+use mathlib.Core.Bool.{Bool, true, false, cond, ◌&&◌, ◌||◌}
 use mathlib.Core.List.{List, [], ◌∷◌, ◌++◌, append-nil}
 use Prim.Native.Nat.{ℕ, zero, suc, ◌+◌, ◌≤◌}
 use native.Mathlib.Omega.{arith}
-use borrow.Author.Tests.{eq-eqb, eqb-true, leb-true}
+use borrow.Author.Tests.{eq-eqb, ne_eqb, eqb-true, leb-true}
+use Rattle.std.specs.Prelude.{Option, Some, None}
 use lib.{Dec.leb, Dec.eqb, ListN.length, ListN.take, ListN.get_or, ListN.length-append, Seq.take_all}
 use Rattle.octets.specs.{Digits.number_at, Rows.row, Rows.numbers_at, Rows.Fits}
 use Rattle.octets.proofs.{Numbers.Below, Rows.length_row, Rows.numbers_back, Rows.row_back, Slices.slice_add}
@@ -17,7 +18,7 @@ use Rattle.sender.specs.{Rules.sender_in_rule, declared.Phase.Phase, declared.Re
 use Rattle.sender.specs.{declared.Sender.Sender}
 use Rattle.sender.specs.declared.Phase.TheVariants.{Idle, Opening, Sending, Done, Refused}
 use Rattle.sender_record.specs.Record.{sender_size, phase_numbers, phase_widths, front_of, sender_bytes}
-use Rattle.sender_record.specs.Record.{is_sender, phase_in, sender_in}
+use Rattle.sender_record.specs.Record.{is_phase, is_sender, phase_in, phase_if, sender_in}
 
 pub length_sender : (s : Sender) → length s.key ≡ key_bytes → length s.pair ≡ pair_bytes
     → length (sender_bytes s) ≡ sender_size
@@ -43,6 +44,41 @@ in_rule_size bytes rule = go (is_sender bytes) refl
     go false other =
         let clash : true ≡ false =
         sym rule ∙ no_sender_out bytes other in let z : ◌≡◌ {A = ℕ} 0 1 = cc in absurd (omega arith)
+
+-- ---- the tests of the code: the length, and then the phase
+
+module _ (bytes : List ℕ) where
+  pub other_length : (length bytes ≡ sender_size → ⊥) → is_sender bytes ≡ false
+  unfolding is_sender
+  other_length e = rw (ne_eqb (length bytes) sender_size e)
+
+  pub by_phase : length bytes ≡ sender_size → is_sender bytes ≡ is_phase (number_at bytes 24 1) (number_at bytes 25 2)
+  unfolding is_sender
+  by_phase e = rw (eq-eqb (length bytes) sender_size e)
+
+-- what a phase that was asked for by its numbers says of them
+module _ (number known : ℕ) where
+  asked : Bool → Option Phase
+  asked b = cond b (Some (phase_in number known)) None
+
+  no_phase : (b : Bool) → asked b ≡ None → b ≡ false
+  unfolding asked
+  no_phase true e = absurd cc
+  no_phase false e = refl
+
+  one_phase : (b : Bool) {phase : Phase} → asked b ≡ Some phase → (b ≡ true) × (phase ≡ phase_in number known)
+  unfolding asked
+  one_phase true e = (refl, cc)
+  one_phase false e = absurd cc
+
+  pub none_asked : phase_if number known ≡ None → is_phase number known ≡ false
+  unfolding asked
+  none_asked e = no_phase (is_phase number known) e
+
+  pub one_asked : {phase : Phase} → phase_if number known ≡ Some phase
+      → (is_phase number known ≡ true) × (phase ≡ phase_in number known)
+  unfolding asked
+  one_asked e = one_phase (is_phase number known) e
 
 -- ---- written and read back
 

@@ -1,5 +1,5 @@
 -- A sender as bytes: the front of a link end, then its phase and how many blocks are known to be held.
-use Rattle.std.specs.Prelude.{ℕ}
+use Rattle.std.specs.Prelude.{ℕ, Option, Some, None}
 use mathlib.Core.{Bool.Bool, Bool.cond, Bool.◌&&◌, Bool.◌||◌, List.List, List.[], List.◌∷◌, List.◌++◌}
 use lib.{Dec.leb, Dec.eqb, ListN.length, ListN.replicate}
 use Rattle.octets.specs.{Digits.number_at, Rows.row}
@@ -27,11 +27,13 @@ front_of s = record { key = s.key; pair = s.pair; session = s.session; length = 
 unfoldable pub sender_bytes : Sender → List ℕ
 sender_bytes s = front_bytes (front_of s) ++ row phase_widths (phase_numbers s.phase)
 
--- the bytes that are a sender: of its length, with a phase that there is, and a count only while sending
+-- the numbers that are a phase's: there is one with this number, and a count only while sending
+abbrev pub is_phase : ℕ → ℕ → Bool
+is_phase number known = leb number 4 && (eqb number 2 || eqb known 0)
+
+-- the bytes that are a sender: of its length, with a phase that there is
 unfoldable pub is_sender : List ℕ → Bool
-is_sender bytes =
-    let number = number_at bytes 24 1 in
-    eqb (length bytes) sender_size && (leb number 4 && (eqb number 2 || eqb (number_at bytes 25 2) 0))
+is_sender bytes = eqb (length bytes) sender_size && is_phase (number_at bytes 24 1) (number_at bytes 25 2)
 
 unfoldable pub phase_in : ℕ → ℕ → Phase
 phase_in number known =
@@ -40,6 +42,10 @@ phase_in number known =
     (cond (eqb number 2) (Sending known)
     (cond (eqb number 3) Done
     (Refused TooLong))))
+
+-- that phase, if the numbers are one's
+abbrev pub phase_if : ℕ → ℕ → Option Phase
+phase_if number known = cond (is_phase number known) (Some (phase_in number known)) None
 
 -- Bytes that are no sender stand for one that is out of rule, and so every call refuses them with 27: its length is
 -- over 32,768.

@@ -3,7 +3,7 @@
 // A sender as bytes: the front of a link end's record, then its phase and how many blocks are known to be held.
 ghost use Rattle.std.specs.Prelude.{◌≡◌, [], ◌∷◌};
 ghost use Rattle.octets.specs.Buffers.{put};
-ghost use Rattle.sender_record.specs.Record.{phase_numbers, phase_in, sender_bytes, no_sender, sender_in};
+ghost use Rattle.sender_record.specs.Record.{phase_numbers, phase_if, sender_bytes, no_sender, sender_in};
 
 use record_bytes::Front;
 use sender::{Phase, Reason, Sender};
@@ -13,56 +13,32 @@ pub const SENDER_BYTES: usize = 27;
 // A length that no record in rule has.
 const NO_LENGTH: u32 = 32769;
 
-// A phase as two numbers: its own, and the count that it carries.
-#[derive(Clone, Copy)]
-pub struct PhaseNumbers {
-    pub number: u64,
-    pub known: u64,
-}
-
-pub fn phase_numbers(phase: Phase) -> PhaseNumbers
-    ensures { (result.number ∷ result.known ∷ []) ≡ phase_numbers phase }
+// A phase's number, each reason has one of its own, and the count that it carries.
+pub fn phase_numbers(phase: Phase) -> (u8, u16)
+    ensures { (result.0 ∷ result.1 ∷ []) ≡ phase_numbers phase }
 {
     match phase {
-        Phase::Idle => PhaseNumbers {
-            number: 0,
-            known: 0,
-        },
-        Phase::Opening => PhaseNumbers {
-            number: 1,
-            known: 0,
-        },
-        Phase::Sending(known) => PhaseNumbers {
-            number: 2,
-            known: known as u64,
-        },
-        Phase::Done => PhaseNumbers {
-            number: 3,
-            known: 0,
-        },
-        Phase::Refused(Reason::TooLong) => PhaseNumbers {
-            number: 4,
-            known: 0,
-        },
+        Phase::Idle => (0, 0),
+        Phase::Opening => (1, 0),
+        Phase::Sending(known) => (2, known),
+        Phase::Done => (3, 0),
+        Phase::Refused(Reason::TooLong) => (4, 0),
     }
 }
 
-fn phase_in(number: u64, known: u16) -> Phase
-    ensures { result ≡ phase_in number known }
+// The phase with these numbers, if they are a phase's: there is a count only while sending.
+#[tactic(auto, unfolding(crate::specs::Record::phase_in))]
+fn phase_in(number: u64, known: u16) -> Option<Phase>
+    ensures { result ≡ phase_if number known }
 {
-    if number == 0 {
-        return Phase::Idle;
+    match (number, known) {
+        (0, 0) => Some(Phase::Idle),
+        (1, 0) => Some(Phase::Opening),
+        (2, known) => Some(Phase::Sending(known)),
+        (3, 0) => Some(Phase::Done),
+        (4, 0) => Some(Phase::Refused(Reason::TooLong)),
+        _ => None,
     }
-    if number == 1 {
-        return Phase::Opening;
-    }
-    if number == 2 {
-        return Phase::Sending(known);
-    }
-    if number == 3 {
-        return Phase::Done;
-    }
-    Phase::Refused(Reason::TooLong)
 }
 
 // What bytes that are no sender stand for: one that is out of rule.
@@ -88,16 +64,11 @@ pub fn sender_in(bytes: &[u8]) -> Sender
     }
     let number = octets::number_at(bytes, 24, 1);
     let known = octets::two_at(bytes, 25);
-    if 4 < number {
+    let Some(phase) = phase_in(number, known) else {
         return no_sender();
-    }
-    if (number != 2) & (known != 0) {
-        return no_sender();
-    }
+    };
     let front = record_bytes::front_in(bytes);
-    let key = front.key;
-    let pair = front.pair;
-    let phase = phase_in(number, known);
+    let Front { key, pair, .. } = front;
     Sender {
         key,
         pair,
@@ -114,17 +85,15 @@ pub fn write_sender(d: &mut [u8], sender: Sender)
     if d.len() < SENDER_BYTES {
         return;
     }
-    let key = sender.key;
-    let pair = sender.pair;
-    let phase = sender.phase;
-    let numbers = phase_numbers(phase);
+    let Sender { key, pair, .. } = sender;
     let front = Front {
         key,
         pair,
         session: sender.session,
         length: sender.length,
     };
+    let (number, known) = phase_numbers(sender.phase);
     record_bytes::write_front(d, front);
-    octet_writer::write_number(d, 24, 1, numbers.number);
-    octet_writer::write_number(d, 25, 2, numbers.known);
+    octet_writer::write_number(d, 24, 1, u64::from(number));
+    octet_writer::write_number(d, 25, 2, u64::from(known));
 }

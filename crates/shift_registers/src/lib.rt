@@ -3,6 +3,17 @@
 ghost use Rattle.std.specs.Prelude.{◌≡◌};
 ghost use Rattle.shift_registers.specs.Words.{shifted};
 
+// Three registers in two words each, the older word of a register as its 1 and the newer as its 0.
+#[derive(Clone, Copy, Default, PartialEq, Eq)]
+pub struct SixWords {
+    pub a1: u64,
+    pub a0: u64,
+    pub b1: u64,
+    pub b0: u64,
+    pub c1: u64,
+    pub c0: u64,
+}
+
 // What steps put out, and what each register then has as its newest word.
 #[derive(Clone, Copy)]
 pub struct Newest {

@@ -32,15 +32,12 @@ pub fn frame_of(first: i16, second: i16) -> Stereo
 pub fn write_frames(samples: &[i16], output: &mut [f32])
     ensures { output.new ≡ put output.old 0 (floats_of samples.now) }
 {
-    let n = samples.len() - samples.len() % 2;
-    if output.len() < n {
-        return;
-    }
-    let mut at = 0;
-    while at < n {
-        let frame = frame_of(samples[at], samples[at + 1]);
-        output[at] = frame.left;
-        output[at + 1] = frame.right;
-        at += 2;
+    let frames = samples.len() / 2;
+    if frames <= output.len() / 2 {
+        for i in 0..frames {
+            let frame = frame_of(samples[2 * i], samples[2 * i + 1]);
+            output[2 * i] = frame.left;
+            output[2 * i + 1] = frame.right;
+        }
     }
 }

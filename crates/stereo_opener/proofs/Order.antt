@@ -1,15 +1,13 @@
--- The order of the refusals: what one who has keys is told of a file, and behind it the rules of its frames, which are
--- over the samples that its survey counts.
+-- The order of the refusals: what one who has keys is told of a file, and behind it the rules of its frames.
 use mathlib.Core.{Path.◌≡◌, Path.refl, Path.sym, Path.ap, Path.◌∙◌, Bool.Bool, Bool.true, Bool.false}
 use mathlib.Core.List.{List, ◌++◌}
 use Prim.Native.Nat.{ℕ}
 use borrow.Author.Tests.{eqb-true, eqb-false}
 use lib.{Dec.T, Dec.eqb}
 use Rattle.octets.specs.Stream.{Cipher}
-use Rattle.refusals.specs.{Numbers.accepted, Rules.AllRight, Rules.◌unlike◌, Rules.Fault, Rules.◌says◌, Rules.first}
-use Rattle.refusals.proofs.{Faults.numbered, Faults.refused_at, Faults.rule_passes, Settled.done_if}
+use Rattle.refusals.specs.{Numbers.accepted, Rules.◌unlike◌, Rules.Fault, Rules.◌says◌, Rules.first}
+use Rattle.refusals.proofs.{Faults.numbered, Faults.refused_at, Faults.rule_passes}
 use Rattle.refusals.proofs.Settled.{first_here, first_later}
-use Rattle.pack.specs.{Calls.surveying, Places.sample_count, declared.Opened.Opened}
 use Rattle.pack.specs.Faults.{faults_from_samples, faults_from_key, file_faults, keyed_faults}
 use Rattle.stereo_bodies.specs.Reading.{frames_faults}
 use Rattle.stereo_opener.specs.Calls.{after_keyed, stereo_faults}
@@ -35,10 +33,3 @@ after_keyed_lem keyed numbers n room {k} {m} found counted = go (eqb k accepted)
     go false e =
         let some = eqb-false k accepted e in
         sym (refused_at 0 (after_keyed k m room) some) ∙ first_here keyed (frames_faults n room) numbers k some found
-
--- the survey of a file without a fault counts its samples
-pub survey_counts : (cipher : Cipher) (file : List ℕ) {told : Opened} → told ≡ surveying cipher file
-    → AllRight (file_faults cipher file)
-    → told.samples ≡ sample_count cipher file
-unfolding surveying
-survey_counts cipher file e right = ap (λ (o : Opened). o.samples) (e ∙ sym (done_if _ _ _ right))

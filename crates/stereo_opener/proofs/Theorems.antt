@@ -10,7 +10,7 @@ use Rattle.octets.specs.{Buffers.placed, Stream.Cipher}
 use Rattle.octets.proofs.Buffers.{take_placed}
 use Rattle.refusals.specs.{Numbers.accepted, Numbers.no_room, Numbers.odd_samples, Outcome.Outcome, Outcome.outcome}
 use Rattle.refusals.specs.Rules.{AllRight, Fault, first, Leaves}
-use Rattle.refusals.specs.declared.Verdict.{Verdict}
+use Rattle.refusals.specs.Rules.{Verdict}
 use Rattle.refusals.proofs.Faults.{all_right, none_wrong, right_both, right_after, refused_at, verdict_right}
 use Rattle.refusals.proofs.Settled.{done_if, settled_left, settled_number, settled_leaves, first_here, first_later}
 use Rattle.stereo.specs.{Levels.sample_at, Frames.floats_of}
@@ -19,9 +19,9 @@ use Rattle.trivium.specs.Keystream.{trivium}
 use Rattle.enocoro.specs.Keystream.{enocoro}
 use Rattle.triad.specs.Tag.{triad}
 use Rattle.pack.specs.Calls.{refused_opening, accepted_opening, lacks_of, opening_pack}
-use Rattle.pack.specs.{Ciphers.cipher_in, Ciphers.Rings, Ciphers.ring_in, Places.sample_count, Places.parts_of}
+use Rattle.pack.specs.{Ciphers.cipher_in, declared.Rings.Rings, Ciphers.ring_in, Places.sample_count, Places.parts_of}
 use Rattle.pack.specs.Faults.{faults_from_samples, faults_from_key, file_faults, keyed_faults, room_faults, open_faults}
-use Rattle.pack.specs.declared.Opened.{Opened}
+use Rattle.pack.specs.Answers.{Opened}
 use Rattle.pack.proofs.AcceptedFiles.{samples_counted}
 use Rattle.pack.proofs.{Opposites.given_good, Theorems.keyed_numbered, Theorems.keyed_shown, Theorems.room_or_not}
 use Rattle.stereo_bodies.specs.Reading.{frames_faults}

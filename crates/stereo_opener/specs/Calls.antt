@@ -7,8 +7,8 @@ use Rattle.refusals.specs.Rules.{◌unlike◌, Fault, ◌says◌, settled}
 use Rattle.stereo.specs.Frames.{floats_of}
 use Rattle.stereo_bodies.specs.Reading.{frames_faults}
 use Rattle.pack.specs.{Calls.refused_opening, Calls.accepted_opening, Calls.lacks_of, Faults.keyed_faults}
-use Rattle.pack.specs.{Ciphers.cipher_in, Ciphers.Rings, Ciphers.ring_in, Places.sample_count, Places.parts_of}
-use Rattle.pack.specs.declared.Opened.{Opened}
+use Rattle.pack.specs.{Ciphers.cipher_in, Ciphers.ring_in, Places.sample_count, Places.parts_of}
+use Rattle.pack.specs.{Answers.Opened, declared.Rings.Rings}
 
 -- behind the number that was found of a file by one who has keys
 abbrev pub after_keyed : ℕ → ℕ → ℕ → List Fault

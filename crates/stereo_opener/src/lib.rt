@@ -2,55 +2,57 @@
 
 // Opening a pack for the voice engine: its frames of floats, once nothing is wrong with it, they are whole, and there is
 // room.
-ghost use Rattle.std.specs.Prelude.{◌≡◌};
-ghost use Rattle.pack.specs.Ciphers.{rings};
+ghost use Rattle.std.specs.Prelude.{◌≡◌, ◌*◌, length, Ok};
+ghost use Rattle.octets.specs.Stream.{enciphered};
+ghost use Rattle.refusals.specs.Answers.{number_in};
 ghost use Rattle.refusals.specs.Outcome.{outcome};
 ghost use Rattle.refusals.specs.Rules.{first};
-ghost use Rattle.stereo_opener.specs.Calls.{after_keyed, opening_stereo_file};
+ghost use Rattle.samples.specs.Words.{words_of};
+ghost use Rattle.chunks.specs.Ahead.{ahead};
+ghost use Rattle.pack.specs.Answers.{opening_of};
+ghost use Rattle.pack.specs.Calls.{inspecting_file};
+ghost use Rattle.pack.specs.Ciphers.{cipher_in, ring_in};
+ghost use Rattle.pack.specs.Places.{parts_of};
+ghost use Rattle.stereo_bodies.specs.Reading.{frames_faults};
+ghost use Rattle.stereo_opener.specs.Calls.{opening_stereo_file};
 
-use pack::Opened;
+use chunks::Cipher;
+use pack::{Opened, Rings};
+use refusals::{Flaw, Refusal};
 
-// The order: the number that one who has keys is told of a file, its tag's too, then whether its samples are whole
-// frames, then the room.
-pub fn frames_fault(keyed: u8, samples: usize, room: usize) -> u8
-    ensures { result ≡ first (after_keyed keyed samples room) }
+// Whether samples are whole frames, and then the room for them.
+pub fn frames_fault(samples: usize, room: usize) -> Result<(), Refusal>
+    ensures { number_in result ≡ first (frames_faults samples room) }
 {
-    if keyed != refusals::ACCEPTED {
-        return keyed;
-    }
     if samples % 2 != 0 {
-        return refusals::ODD_SAMPLES;
+        return Err(Refusal::OddSamples);
     }
     if room < samples {
-        return refusals::NO_ROOM;
+        return Err(Refusal::NoRoom);
     }
-    refusals::ACCEPTED
+    Ok(())
+}
+
+// The body of a file without a flaw, and the cipher that it is under.
+fn body(file: &[u8], rings: Rings, opened: Opened) -> (Cipher, &[u8])
+    requires { opening_of (Ok opened) ≡ inspecting_file rings file.now }
+    ensures { (length result.1.now ≡ 2 * opened.samples)
+        × (words_of (enciphered (ahead result.0) result.1.now)
+        ≡ (parts_of (cipher_in file.now) (ring_in rings file.now) file.now).samples) }
+{
+    let cipher = bodies::begin_from(file, rings, opened.value_at - 2).unwrap();
+    let end = opened.loops_at - 1;
+    (cipher, &file[end - 2 * opened.samples..end])
 }
 
 // Writes the frames to the front of the output, left first, and answers what the file holds and where.
-pub fn open(
-    file: &[u8],
-    ring: [[u8; 10]; 4],
-    second: [[u8; 16]; 4],
-    third: [[u8; 16]; 4],
-    output: &mut [f32],
-) -> Opened
-    ensures { outcome result output.new
-        ≡ opening_stereo_file (rings ring second third) file.now output.old }
+pub fn open(file: &[u8], rings: Rings, output: &mut [f32]) -> Result<Opened, Flaw>
+    ensures { outcome (opening_of result) output.new
+        ≡ opening_stereo_file rings file.now output.old }
 {
-    // the count is the survey's, since of a refused file, also of one with a wrong tag, `inspect` tells none
-    let told = surveyor::survey(file);
-    let opened = inspector::inspect(file, ring, second, third);
-    let samples = told.samples;
-    let fault = frames_fault(opened.refusal, samples, output.len());
-    if fault != refusals::ACCEPTED {
-        return pack::refused_opening(opened.lacks, fault);
-    }
-    let value_at = opened.value_at;
-    let loops_at = opened.loops_at;
-    let begun = bodies::begin_from(file, ring, second, third, value_at - 2);
-    let cipher = begun.cipher;
-    let body = octets::slice(file, loops_at - 1 - 2 * samples, 2 * samples);
+    let opened = inspector::inspect(file, rings)?;
+    frames_fault(opened.samples, output.len())?;
+    let (cipher, body) = body(file, rings, opened);
     stereo_bodies::read_frames(cipher, body, output);
-    opened
+    Ok(opened)
 }

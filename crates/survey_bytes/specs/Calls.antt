@@ -3,7 +3,7 @@ use Rattle.std.specs.Prelude.{ℕ, ◌*◌, List, [], ◌∷◌, ◌++◌, lengt
 use Rattle.octets.specs.{Buffers.placed, Rows.numbers_at}
 use Rattle.refusals.specs.{Numbers.accepted, Outcome.Outcome, Outcome.outcome, Rules.Fault, Rules.settled}
 use Rattle.pack.specs.{Calls.accepted_opening, Calls.surveying_file, Ciphers.cipher_in, Faults.file_faults}
-use Rattle.pack.specs.{Faults.room_faults, Layout.fours, Places.loop_count, Places.loops_place, declared.Opened.Opened}
+use Rattle.pack.specs.{Faults.room_faults, Layout.fours, Places.loop_count, Places.loops_place, Answers.Opened}
 use Rattle.record_bytes.specs.Written.{Written, wrote}
 
 -- ---- the answer's numbers, in the header's order

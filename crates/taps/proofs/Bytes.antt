@@ -7,8 +7,8 @@ use Rattle.octets.specs.Buffers.{slice, placed, put}
 use Rattle.octets.specs.Digits.{number, number_after, number_at, digits, word, byte_of}
 use Rattle.octets.specs.Stream.{from, enciphered}
 use Rattle.octets.proofs.Numbers.{Below, digit_at}
-use Rattle.octets.proofs.Streams.{byte_of_word, power_of_bytes, runs_placed, Gives}
-use Rattle.octets.proofs.Streams.{OfBytes, under, run_under, run_put, two_under}
+use Rattle.octets.proofs.Streams.{byte_of_word, power_of_bytes, Gives}
+use Rattle.octets.proofs.Streams.{OfBytes, under, run_under, two_under}
 use Rattle.taps.specs.{Keystream.bits, Keystream.keystream}
 use Rattle.taps.specs.Registers.{State, next, output_bit, steps}
 use Rattle.taps.proofs.Steps.{steps_bytes, number_bits, bits_small}
@@ -47,21 +47,8 @@ module _ (input : List ℕ) (at n : ℕ) (s : State) (small : n ≤ 8) (hi : at 
       ≡ enciphered (keystream s) (slice input at n)
   run_read = run_under (keystream s) input at n _ small hi bytes (word_gives n s)
 
-  pub run_written : (output : List ℕ) → at + n ≤ length output
-      → put output at (digits 256 n (bit_xor (word (number_at input at n)) (number 2 (bits (8 * n) s))))
-      ≡ placed output at (enciphered (keystream s) (slice input at n))
-  run_written = run_put (keystream s) input at n _ small hi bytes (word_gives n s)
-
--- two calls, the second from registers that have gone as far as the first came
-pub two_calls : (s mid : State) (input output left : List ℕ) (at m n : ℕ)
-    → at + (m + n) ≤ length input → at + (m + n) ≤ length output
-    → mid ≡ steps (8 * m) s → left ≡ placed output at (enciphered (keystream s) (slice input at m))
-    → placed left (at + m) (enciphered (keystream mid) (slice input (at + m) n))
-    ≡ placed output at (enciphered (keystream s) (slice input at (m + n)))
-two_calls s mid input output left at m n hi ho gone done =
-    rw (done, gone, ← keystream_from m s) (runs_placed (keystream s) input output at m n hi ho)
-
--- the same by words: m bytes under one, and n more under another
+-- two covers, the second from registers that have gone as far as the first came: m bytes under one word, and n more under
+-- another
 pub two_covers : (s mid : State) (input output left : List ℕ) (at m n one two : ℕ) → m ≤ 8 → n ≤ 8 → Below 256 input
     → at + (m + n) ≤ length input → at + (m + n) ≤ length output → mid ≡ steps (8 * m) s
     → one ≡ number 2 (bits (8 * m) s) → left ≡ put output at (under input at m one) → two ≡ number 2 (bits (8 * n) mid)

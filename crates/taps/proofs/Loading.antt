@@ -21,7 +21,16 @@ tenth w bytes wide ten below =
 
 pub loaded_words : (key iv : List ℕ) → length key ≡ 10 → length iv ≡ 10 → Below 256 key → Below 256 iv
     → let part : List ℕ → ℕ → ℕ → ℕ = λ xs at n. word (number_at xs at n) in
-    of_words (part key 0 2) (part key 2 8) (part iv 0 2) (part iv 2 8) (7 * 2 ^ 44) 0 ≡ loaded key iv
+    of_words
+    (record {
+      a1 = part key 0 2;
+      a0 = part key 2 8;
+      b1 = part iv 0 2;
+      b0 = part iv 2 8;
+      c1 = 7 * 2 ^ 44;
+      c0 = 0;
+    })
+    ≡ loaded key iv
 unfolding loaded number_after
 loaded_words key iv tenk teni keys values =
     λ i.

@@ -7,7 +7,7 @@ use lib.ListN.{length, length-append, length-replicate}
 use Rattle.octets.specs.Digits.{number}
 use Rattle.octets.proofs.Numbers.{Below}
 use Rattle.shift_registers.specs.Steps.{Mover, steps_by, bits_by}
-use Rattle.shift_registers.specs.Words.{newest_by}
+use Rattle.shift_registers.specs.{Words.newest_by, declared.SixWords.SixWords}
 use Rattle.shift_registers.proofs.Steps as by
 use Rattle.taps.specs.{Keystream.bits, Words.of_words, Words.newest}
 use Rattle.taps.specs.Registers.{State, next, steps, output_bit, zeros}
@@ -72,8 +72,8 @@ steps_bytes n m s = ap (λ (k : ℕ). steps k s) (omega arith) ∙ steps_add (8 
 abbrev pub Held : State → Type 0
 Held = by.Held 93 84 111
 
-pub held_words : (a1 a0 b1 b0 c1 c0 : ℕ) → Held (of_words a1 a0 b1 b0 c1 c0)
-held_words a1 a0 b1 b0 c1 c0 = by.held_cut 93 84 111 _ _ _
+pub held_words : (w : SixWords) → Held (of_words w)
+held_words w = by.held_cut 93 84 111 _ _ _
 
 cuts : (bit : ℕ) (s : State) → Held (next s)
 unfolding next

@@ -4,11 +4,11 @@ use Prim.Native.Nat.{ℕ, ◌+◌, ◌-◌, ◌/◌, ◌%◌, ◌^◌, ◌<◌, 
 use native.Mathlib.Omega.{arith}
 use Rattle.octets.specs.Digits.{digits}
 use Rattle.octets.proofs.Numbers.{length_digits}
-use Rattle.shift_registers.specs.{Registers.moved, declared.Newest.Newest}
+use Rattle.shift_registers.specs.{Registers.moved, declared.Newest.Newest, declared.SixWords.SixWords}
 use Rattle.shift_registers.proofs.Strides as by
 use Rattle.shift_registers.proofs.{Words.Reads, Strides.Small, Strides.Striding, Strides.down, Strides.late}
 use Rattle.taps.specs.Registers.{State, next, steps, output_bit}
-use Rattle.taps.specs.Words.{of_words, newest}
+use Rattle.taps.specs.{Words.of_words, Words.newest}
 use Rattle.taps.proofs.Steps.{Held, alone, steps_alone, newest_alone}
 use Rattle.taps.proofs.Words.{mixed, bits_by_lem, mixed_down, mixed_small}
 
@@ -56,24 +56,28 @@ partly s held n k e =
     sym (steps_alone (digits 2 n (0 / 2 ^ k)) n s (length_digits 2 n (0 / 2 ^ k)))
     ∙ by.partly striding 0 none s held n k e
 
-module _ (a1 a0 b1 b0 c1 c0 : ℕ) where
+module _ (w : SixWords) where
   abbrev six : State
-  six = of_words a1 a0 b1 b0 c1 c0
+  six = of_words w
 
   -- what n of them leave newest, and what all leave
-  pub late_newest : (n : ℕ) → late n a0 b0 c0 (words six) ≡ newest (min n 64) six
+  pub late_newest : (n : ℕ) → late n w.a0 w.b0 w.c0 (words six) ≡ newest (min n 64) six
   late_newest n =
-      by.late_newest striding 0 none a1 a0 b1 b0 c1 c0 n
+      by.late_newest striding 0 none w.a1 w.a0 w.b1 w.b0 w.c1 w.c0 n
       ∙ newest_alone (digits 2 (min n 64) (0 / 2 ^ (64 - n))) (min n 64) six (length_digits 2 (min n 64) _)
 
   pub words_newest : words six ≡ newest 64 six
   words_newest =
-      by.words_newest striding 0 none a1 a0 b1 b0 c1 c0
+      by.words_newest striding 0 none w.a1 w.a0 w.b1 w.b0 w.c1 w.c0
       ∙ newest_alone (digits 2 64 0) 64 six (length_digits 2 64 0)
 
   -- the registers after all of them, by their newest words alone
-  pub strode : let t = steps 64 six in of_words a0 (t.a % 2 ^ 64) b0 (t.b % 2 ^ 64) c0 (t.c % 2 ^ 64) ≡ t
+  abbrev pub pushed : State → SixWords
+  pushed t =
+      record { a1 = w.a0; a0 = t.a % 2 ^ 64; b1 = w.b0; b0 = t.b % 2 ^ 64; c1 = w.c0; c0 = t.c % 2 ^ 64 }
+
+  pub strode : of_words (pushed (steps 64 six)) ≡ steps 64 six
   strode =
-      subst (λ (t : State). of_words a0 (t.a % 2 ^ 64) b0 (t.b % 2 ^ 64) c0 (t.c % 2 ^ 64) ≡ t)
+      subst (λ (t : State). of_words (pushed t) ≡ t)
       (steps_alone (digits 2 64 0) 64 six (length_digits 2 64 0))
-      (by.strode striding 0 none a1 a0 b1 b0 c1 c0)
+      (by.strode striding 0 none w.a1 w.a0 w.b1 w.b0 w.c1 w.c0)

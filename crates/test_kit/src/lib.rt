@@ -2,9 +2,9 @@
 
 // What the test programs share. A program reads rows from standard input, one on a line, and one loop runs them all:
 //
-//     read_rows(rt, rows)          standard input, as far as the lent bytes have room, and how many bytes it was
-//     line(rows, n)                the n-th line, from 0; an empty one is behind the last
-//     heading(rt, line)            prints a line that begins with `#` as it is, and answers whether it did
+//     rows(rt, room)               standard input, in the room that is lent for it and as far as that goes
+//     run_rows(rt, rows, kept, f)  runs them: `f` is given a row and what the one before it kept, and `f` prints
+//     heading(rt, line)            prints a line that begins with `#` as it is, and answers whether it is one
 //     field(line, n)               the n-th word of a row, from 0; empty if there is none
 //     field_number(line, n)        the decimal number that it is
 //     field_bytes(line, n, room)   the bytes that it spells, in the room that is lent for them and as far as that goes:
@@ -17,64 +17,71 @@
 // an error where that fails, with which a program ends.
 ghost use Rattle.std.specs.Prelude.{◌<◌, ◌≤◌, length, IfOk};
 
+pub mod engines;
+
 use std::io;
 
 // What each byte of an output is before a call, to see whether the call writes it.
 pub const UNTOUCHED: u8 = 0xa5;
 
-// The n-th part, from 0, of a text that a byte takes apart. It is empty behind the last. A difference that may wrap
-// asks for no proof.
+// The n-th part, from 0, of a text that a byte takes apart. It is empty behind the last.
 fn part(text: &[u8], by: u8, n: usize) -> &[u8] {
-    let mut from = 0;
-    let mut left = n;
-    for i in 0..text.len() {
-        if text[i] == by {
-            if left == 0 {
-                return octets::slice(text, from, std::num::wrapping_sub_usize(i, from));
-            }
-            left -= 1;
-            from = i + 1;
-        }
-    }
-    if 0 < left {
-        return &text[..0];
-    }
-    octets::slice(text, from, text.len())
+    text.split(|byte| *byte == by).nth(n).unwrap_or(&text[..0])
 }
 
 // Room for all rows of a program.
 pub const ROOM: usize = 65536;
 
-// Reads rows from standard input, and answers how many bytes they are.
-pub fn read_rows(rt: &impl Input, rows: &mut [u8]) -> io::Result<usize>
-    ensures { IfOk result (λ n. n ≤ length rows.new) }
-{
-    whole_input::read_full(rt, rows)
+// The rows on standard input.
+pub fn rows<'a>(rt: &impl Input, room: &'a mut [u8]) -> io::Result<&'a [u8]> {
+    let length = whole_input::read_full(rt, room)?;
+    Ok(&room[..length])
 }
 
-pub fn line(rows: &[u8], n: usize) -> &[u8] {
-    part(rows, b'\n', n)
+// Prints a line that begins with `#` as it is, and answers whether it is one.
+pub fn heading(rt: &impl Print, line: &[u8]) -> io::Result<bool> {
+    if letter(line) != b'#' {
+        return Ok(false);
+    }
+    rt.write_all(line)?;
+    rt.write_all(b"\n")?;
+    Ok(true)
+}
+
+// Runs the rows in their order, up to the first empty line, headings apart. What a row comes to is what the next one
+// sets out from.
+pub fn run_rows<S: Copy, P: Print, F: Fn(&P, S, &[u8]) -> io::Result<S>>(
+    rt: &P,
+    rows: &[u8],
+    start: S,
+    run: F,
+) -> io::Result<S>
+    requires { F.IsAlwaysCallable run }
+{
+    let mut kept = start;
+    for row in rows.split(|byte| *byte == b'\n') {
+        if row.len() == 0 {
+            break;
+        }
+        if !heading(rt, row)? {
+            kept = run(rt, kept, row)?;
+        }
+    }
+    Ok(kept)
 }
 
 pub fn field(line: &[u8], n: usize) -> &[u8] {
     part(line, b' ', n)
 }
 
-// The byte at a place, or 0.
-fn byte_at(text: &[u8], at: usize) -> u8 {
-    if at < text.len() {
-        return text[at];
-    }
-    0
+// The letter that a row begins with.
+pub fn letter(row: &[u8]) -> u8 {
+    byte_at(row, 0)
 }
 
-pub fn heading(rt: &impl Print, line: &[u8]) -> io::Result<bool> {
-    if byte_at(line, 0) != b'#' {
-        return Ok(false);
-    }
-    rt.write_all(line)?;
-    rt.write_all(b"\n")?;
-    Ok(true)
+// The byte at a place, or 0.
+fn byte_at(text: &[u8], at: usize) -> u8 {
+    text.get(at).copied().unwrap_or(0)
 }
 
 // What a glyph counts, of ten or of sixteen.
@@ -89,12 +96,9 @@ fn digit(glyph: u8) -> u8
 
 // A decimal number. One of more than 18 digits loses those in front, so that there is nothing to show.
 fn number(word: &[u8]) -> u64 {
-    let mut value: u64 = 0;
-    for glyph in word {
-        let next = digit(*glyph);
-        value = value % 100000000000000000 * 10 + (next as u64);
-    }
-    value
+    word.iter().fold(0, |value, glyph| {
+        value % 100000000000000000 * 10 + (digit(*glyph) as u64)
+    })
 }
 
 // How many bytes a run of letters or of pairs spells, and the i-th of them; after the last comes the first again.
@@ -133,23 +137,18 @@ fn count(piece: &[u8]) -> usize {
 // Writes what one part of a word spells from `at`, as far as there is room, and answers where it ends.
 fn spell(piece: &[u8], output: &mut [u8], at: usize) -> usize {
     let run = part(piece, b'*', 0);
-    let count = count(piece);
-    let mut end = at;
+    let count = count(piece).min(output.len().saturating_sub(at));
     for i in 0..count {
-        if output.len() <= end {
-            return end;
-        }
-        output[end] = spelt_byte(run, i);
-        end += 1;
+        output[at + i] = spelt_byte(run, i);
     }
-    end
+    at + count
 }
 
 // Puts the bytes that a word spells at the front of the output, and answers how many.
 fn bytes(word: &[u8], output: &mut [u8]) -> usize {
     let mut end = 0;
-    for i in 0..word.len() {
-        end = spell(part(word, b'+', i), output, end);
+    for piece in word.split(|byte| *byte == b'+') {
+        end = spell(piece, output, end);
     }
     end
 }

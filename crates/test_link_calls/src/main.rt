@@ -17,244 +17,206 @@
 // frame, the length that the call tells, which is 99 before it, and what it wrote.
 ghost use Rattle.std.specs.Prelude.{◌≡◌, length};
 
+use refusals::Refusal;
 use std::io;
 
 // What a length is before a call, to see whether the call tells one.
 const UNTOLD: usize = 99;
 
 // There is room for 1,024 bytes of anything but the sound, and rows lend no more.
-const OVER_ROOM: u64 = 1025;
+const MOST: usize = 1024;
 
 // More bytes than a row spells.
 const ROOM: usize = 65536;
 
 const MOST_ROWS: usize = 1000;
 
-// From where to where two runs differ. Where they don't, both are 0.
-#[derive(Clone, Copy)]
-struct Place {
-    from: usize,
-    end: usize,
-}
-
-// What is kept: of the receiver's end, and of both.
-#[derive(Clone, Copy)]
-struct Kept {
-    receiver: [u8; 1024],
-    buffer: [u8; 1024],
-}
-
+// What is kept between rows.
 #[derive(Clone, Copy)]
 struct Ends {
-    sender: [u8; 1024],
-    kept: Kept,
+    sender: [u8; MOST],
+    receiver: [u8; MOST],
+    buffer: [u8; MOST],
 }
 
 // A row's numbers.
 #[derive(Clone, Copy)]
 struct Lent {
-    record: u64,
-    first: u64,
-    second: u64,
+    record: usize,
+    first: usize,
+    second: usize,
 }
 
 fn fresh() -> [u8; 1024]
     ensures { 1024 ≡ length result }
 {
-    [test_kit::UNTOUCHED; 1024]
+    [test_kit::UNTOUCHED; MOST]
 }
 
-fn difference(before: &[u8; 1024], after: &[u8; 1024]) -> Place {
-    let mut from = 0;
-    let mut end = 0;
-    for i in 0..1024 {
-        if before[i] != after[i] {
-            if end == 0 {
-                from = i;
-            }
-            end = i + 1;
-        }
-    }
-    Place { from, end }
+// As many bytes of a run as a row lends.
+fn front(run: &mut [u8; MOST], size: usize) -> &mut [u8] {
+    &mut run[..size % (MOST + 1)]
 }
 
-fn show_bytes(rt: &impl Print, bytes: &[u8; 1024], from: usize, end: usize) -> io::Result<()> {
-    test_kit::print_number(rt, b" from ", from as u64)?;
-    rt.write_all(b": ")?;
-    let n = std::num::wrapping_sub_usize(end, from);
-    test_kit::print_bytes(rt, octets::slice(bytes, from, n))
+// From where to where two runs differ, if they do.
+fn difference(before: &[u8; MOST], after: &[u8; MOST]) -> Option<(usize, usize)> {
+    let from = before
+        .iter()
+        .zip(after)
+        .position(|(old, new)| *old != *new)?;
+    let last = before
+        .iter()
+        .zip(after)
+        .rposition(|(old, new)| *old != *new)?;
+    Some((from, last + 1))
 }
 
 // What a call answers or tells, and what it changed.
-fn show(rt: &impl Print, number: usize, before: &[u8; 1024], after: &[u8; 1024]) -> io::Result<()> {
-    let place = difference(before, after);
+fn show(rt: &impl Print, number: usize, before: &[u8; MOST], after: &[u8; MOST]) -> io::Result<()> {
     test_kit::print_number(rt, b" | ", number as u64)?;
-    if place.end == 0 {
-        return rt.write_all(b" untouched");
+    match difference(before, after) {
+        None => rt.write_all(b" untouched"),
+        Some((from, end)) => {
+            test_kit::print_number(rt, b" from ", from as u64)?;
+            rt.write_all(b": ")?;
+            test_kit::print_bytes(rt, octets::slice(after, from, end.saturating_sub(from)))
+        }
     }
-    show_bytes(rt, after, place.from, place.end)
 }
 
 fn keep(bytes: &[u8]) -> Ends {
     let buffer = fresh();
     let mut record = buffer;
     octet_writer::copy(&mut record, 0, bytes);
-    let kept = Kept {
-        receiver: record,
-        buffer,
-    };
     Ends {
         sender: record,
-        kept,
+        receiver: record,
+        buffer,
     }
 }
 
-// A call that changes a record and nothing else.
-fn change(letter: u8, record: &mut [u8], first: &[u8], second: &[u8]) -> u8 {
-    if letter == b'b' {
-        return sender_bytes::begin(record, first);
-    }
-    if letter == b'h' {
-        return sender_bytes::hear(record, first);
-    }
-    if letter == b'm' {
-        return sender_bytes::make(record, first, second);
-    }
-    receiver_bytes::make(record, first, second)
-}
-
-fn changed(
+// A record of which a call is lent so many bytes, and which it may change.
+fn changed<F: Fn(&mut [u8]) -> Result<(), Refusal>>(
     rt: &impl Print,
-    letter: u8,
-    record: [u8; 1024],
-    lent: u64,
-    first: &[u8],
-    second: &[u8],
-) -> io::Result<[u8; 1024]> {
+    record: [u8; MOST],
+    lent: usize,
+    call: F,
+) -> io::Result<[u8; MOST]>
+    requires { F.IsAlwaysCallable call }
+{
     let mut next = record;
-    let size = (lent % OVER_ROOM) as usize;
-    let number = change(letter, &mut next[0..size], first, second);
-    show(rt, number as usize, &record, &next)?;
+    let answer = call(front(&mut next, lent));
+    show(rt, refusals::number(answer) as usize, &record, &next)?;
     Ok(next)
 }
 
 fn make(rt: &impl Print, names: &[u8], lent: Lent) -> io::Result<Ends> {
-    let key = lent.first as usize;
-    let pair = lent.second as usize;
-    let record = lent.record;
-    let own_key = octets::slice(names, 0, key);
-    let own_pair = octets::slice(names, key, pair);
     let buffer = fresh();
-    let sender = changed(rt, b'm', buffer, record, own_key, own_pair)?;
-    let receiver = changed(rt, b'n', buffer, record, own_key, own_pair)?;
-    let kept = Kept { receiver, buffer };
-    Ok(Ends { sender, kept })
-}
-
-fn send(rt: &impl Print, sender: &[u8; 1024], sound: &[u8], lent: Lent) -> io::Result<()> {
-    let before = fresh();
-    let mut frame = before;
-    let mut length = UNTOLD;
-    let size = lent.record as usize;
-    let space = (lent.first % OVER_ROOM) as usize;
-    let number = sender_bytes::send(
-        octets::slice(sender, 0, size),
-        sound,
-        &mut frame[0..space],
-        &mut length,
-    );
-    show(rt, number as usize, sender, sender)?;
-    show(rt, length, &before, &frame)
-}
-
-fn receive(
-    rt: &impl Print,
-    receiver: [u8; 1024],
-    buffer: [u8; 1024],
-    frame: &[u8],
-    lent: Lent,
-) -> io::Result<Kept> {
-    let before = fresh();
-    let mut answer = before;
-    let mut next = receiver;
-    let mut sound = buffer;
-    let mut length = UNTOLD;
-    let size = (lent.record % OVER_ROOM) as usize;
-    let most = (lent.first % OVER_ROOM) as usize;
-    let space = (lent.second % OVER_ROOM) as usize;
-    let number = receiver_bytes::hear(
-        &mut next[0..size],
-        frame,
-        &mut sound[0..most],
-        &mut answer[0..space],
-        &mut length,
-    );
-    show(rt, number as usize, &receiver, &next)?;
-    show(rt, most, &buffer, &sound)?;
-    show(rt, length, &before, &answer)?;
-    Ok(Kept {
-        receiver: next,
-        buffer: sound,
+    let key = octets::slice(names, 0, lent.first);
+    let pair = octets::slice(names, lent.first, lent.second);
+    let sender = changed(rt, buffer, lent.record, |record| {
+        sender_bytes::make(record, key, pair)
+    })?;
+    let receiver = changed(rt, buffer, lent.record, |record| {
+        receiver_bytes::make(record, key, pair)
+    })?;
+    Ok(Ends {
+        sender,
+        receiver,
+        buffer,
     })
 }
 
+fn send(rt: &impl Print, sender: &[u8; MOST], sound: &[u8], lent: Lent) -> io::Result<()> {
+    let before = fresh();
+    let mut frame = before;
+    let mut length = UNTOLD;
+    let answer = sender_bytes::send(
+        octets::slice(sender, 0, lent.record),
+        sound,
+        front(&mut frame, lent.first),
+        &mut length,
+    );
+    show(rt, refusals::number(answer) as usize, sender, sender)?;
+    show(rt, length, &before, &frame)
+}
+
+fn receive(rt: &impl Print, ends: Ends, frame: &[u8], lent: Lent) -> io::Result<Ends> {
+    let before = fresh();
+    let mut written = before;
+    let mut next = ends;
+    let mut length = UNTOLD;
+    let answer = receiver_bytes::hear(
+        front(&mut next.receiver, lent.record),
+        frame,
+        front(&mut next.buffer, lent.first),
+        front(&mut written, lent.second),
+        &mut length,
+    );
+    let number = refusals::number(answer) as usize;
+    show(rt, number, &ends.receiver, &next.receiver)?;
+    show(rt, lent.first % (MOST + 1), &ends.buffer, &next.buffer)?;
+    show(rt, length, &before, &written)?;
+    Ok(next)
+}
+
 fn call(rt: &impl Print, letter: u8, ends: Ends, given: &[u8], lent: Lent) -> io::Result<Ends> {
-    if letter == b'k' {
-        return Ok(keep(given));
+    match letter {
+        b'k' => Ok(keep(given)),
+        b'm' => make(rt, given, lent),
+        b'r' => receive(rt, ends, given, lent),
+        b's' => {
+            send(rt, &ends.sender, given, lent)?;
+            Ok(ends)
+        }
+        b'b' => {
+            let sender = changed(rt, ends.sender, lent.record, |record| {
+                sender_bytes::begin(record, given)
+            })?;
+            Ok(Ends { sender, ..ends })
+        }
+        b'h' => {
+            let sender = changed(rt, ends.sender, lent.record, |record| {
+                sender_bytes::hear(record, given)
+            })?;
+            Ok(Ends { sender, ..ends })
+        }
+        _ => {
+            let sender = changed(rt, ends.sender, lent.record, |record| {
+                receiver_bytes::make(record, given, given)
+            })?;
+            Ok(Ends { sender, ..ends })
+        }
     }
-    if letter == b'm' {
-        return make(rt, given, lent);
-    }
-    let sender = ends.sender;
-    let kept = ends.kept;
-    if letter == b'r' {
-        let receiver = kept.receiver;
-        let buffer = kept.buffer;
-        let heard = receive(rt, receiver, buffer, given, lent)?;
-        return Ok(Ends {
-            sender,
-            kept: heard,
-        });
-    }
-    if letter == b's' {
-        send(rt, &sender, given, lent)?;
-        return Ok(ends);
-    }
-    let next = changed(rt, letter, sender, lent.record, given, given)?;
-    Ok(Ends { sender: next, kept })
 }
 
 fn numbers(row: &[u8]) -> Lent {
     Lent {
-        record: test_kit::field_number(row, 2),
-        first: test_kit::field_number(row, 3),
-        second: test_kit::field_number(row, 4),
+        record: test_kit::field_number(row, 2) as usize,
+        first: test_kit::field_number(row, 3) as usize,
+        second: test_kit::field_number(row, 4) as usize,
     }
 }
 
-fn run(rt: &impl Print, row: &[u8], ends: Ends) -> io::Result<Ends> {
+fn run(rt: &impl Print, ends: Ends, row: &[u8]) -> io::Result<Ends> {
     if row.len() == 0 || test_kit::heading(rt, row)? {
         return Ok(ends);
     }
     rt.write_all(row)?;
     let mut bytes = [0; ROOM];
     let given = test_kit::field_bytes(row, 1, &mut bytes);
-    let next = call(rt, row[0], ends, given, numbers(row))?;
+    let next = call(rt, test_kit::letter(row), ends, given, numbers(row))?;
     rt.write_all(b"\n")?;
     Ok(next)
 }
 
-// The first row has to keep or to make something.
-fn run_all(rt: &impl Print, rows: &[u8]) -> io::Result<()> {
+fn main(rt: HostRuntime) -> io::Result<()> {
+    let mut room = [0; test_kit::ROOM];
+    let rows = test_kit::rows(&rt, &mut room)?;
+    // the first row has to keep or to make something
     let mut ends = keep(rows);
-    for n in 0..MOST_ROWS {
-        ends = run(rt, test_kit::line(rows, n), ends)?;
+    for row in rows.split(|byte| *byte == b'\n').take(MOST_ROWS) {
+        ends = run(&rt, ends, row)?;
     }
     Ok(())
-}
-
-fn main(rt: HostRuntime) -> io::Result<()> {
-    let mut input = [0; test_kit::ROOM];
-    let got = test_kit::read_rows(&rt, &mut input)?;
-    run_all(&rt, &input[..got])
 }

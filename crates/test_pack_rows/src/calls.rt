@@ -38,23 +38,21 @@ pub fn print_sound(rt: &impl Print, output: &[i16; 4]) -> io::Result<()> {
 
 // How many bytes of a small file are printed: of one with a tag more than of others.
 fn shown(kind: Kind) -> usize {
-    if pack::tag_length(kind) == 0 {
+    if kind.tag_length() == 0 {
         return 40;
     }
     FILE_ROOM
 }
 
 pub fn open(rt: &impl Print, row: &[u8]) -> io::Result<()> {
-    let lent = parts::least(test_kit::field_number(row, 3) as usize, SOUND_ROOM);
+    let lent = SOUND_ROOM.min(test_kit::field_number(row, 3) as usize);
     let mut file = [0; parts::SMALL_ROOM];
     let mut output = sound_room();
     let mut keys = parts::own_keys();
     test_kit::field_bytes(row, 4, &mut keys);
     let opened = opener::open(
         test_kit::field_bytes(row, 2, &mut file),
-        rings::trivium_ring(&keys),
-        rings::enocoro_ring(&keys),
-        rings::triad_ring(&keys),
+        rings::rings_of(&keys),
         &mut output[0..lent],
     );
     parts::print_opened(rt, b"", opened)?;
@@ -71,7 +69,6 @@ pub fn seal(rt: &impl Print, row: &[u8]) -> io::Result<()> {
         test_kit::field_bytes(row, 2, &mut body),
         &mut file,
     );
-    test_kit::print_number(rt, b" ", sealed.refusal as u64)?;
-    test_kit::print_number(rt, b" ", sealed.length as u64)?;
+    parts::print_sealed(rt, b" ", sealed)?;
     print_output(rt, octets::slice(&file, 0, shown(kind)))
 }

@@ -7,16 +7,16 @@ const BITS: [u8; 8] = [1, 2, 4, 8, 16, 32, 64, 128];
 
 fn open_turned(file: &[u8], at: usize, bits: u8, output: &mut [i16]) -> u8 {
     let mut other = [0; parts::SMALL_ROOM];
-    let keys = parts::own_keys();
     parts::turn_over(file, at, bits, &mut other);
     let opened = opener::open(
         octets::slice(&other, 0, file.len()),
-        rings::trivium_ring(&keys),
-        rings::enocoro_ring(&keys),
-        rings::triad_ring(&keys),
+        rings::rings_of(&parts::own_keys()),
         output,
     );
-    opened.refusal
+    match opened {
+        Ok(_) => 0,
+        Err(flaw) => flaw.refusal as u8,
+    }
 }
 
 fn flip_byte(rt: &impl Print, file: &[u8], at: usize, output: &mut [i16]) -> io::Result<()> {

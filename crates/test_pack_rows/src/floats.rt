@@ -32,16 +32,14 @@ fn print_floats(rt: &impl Print, output: &[f32; 4]) -> io::Result<()> {
 }
 
 pub fn frames(rt: &impl Print, row: &[u8]) -> io::Result<()> {
-    let lent = parts::least(test_kit::field_number(row, 3) as usize, ROOM);
+    let lent = ROOM.min(test_kit::field_number(row, 3) as usize);
     let mut file = [0; parts::SMALL_ROOM];
     let mut output = room();
     let mut keys = parts::own_keys();
     test_kit::field_bytes(row, 4, &mut keys);
     let opened = stereo_opener::open(
         test_kit::field_bytes(row, 2, &mut file),
-        rings::trivium_ring(&keys),
-        rings::enocoro_ring(&keys),
-        rings::triad_ring(&keys),
+        rings::rings_of(&keys),
         &mut output[0..lent],
     );
     parts::print_opened(rt, b"", opened)?;

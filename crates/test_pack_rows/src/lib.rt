@@ -39,15 +39,9 @@ fn run(rt: &impl Print, row: &[u8]) -> io::Result<()> {
     }
 }
 
-pub fn run_all(rt: &impl Print, rows: &[u8]) -> io::Result<()> {
-    for i in 0..rows.len() {
-        let row = test_kit::line(rows, i);
-        if row.len() == 0 {
-            break;
-        }
-        if !test_kit::heading(rt, row)? {
-            run(rt, row)?;
-        }
-    }
-    Ok(())
+// The whole of a program: the rows on its standard input.
+pub fn run_all(rt: &HostRuntime) -> io::Result<()> {
+    let mut room = [0; test_kit::ROOM];
+    let rows = test_kit::rows(rt, &mut room)?;
+    test_kit::run_rows(rt, rows, (), |rt, (), row| run(rt, row))
 }

@@ -1,7 +1,9 @@
 // Keys, a sealing from bytes and from a row, and an opening's answer in print.
-ghost use Rattle.std.specs.Prelude.{◌≡◌, min, length};
+ghost use Rattle.std.specs.Prelude.{◌≡◌, length};
 
-use pack::{Kind, Opened, Sealed};
+use pack::{Kind, Opened};
+use refusals::{Flaw, Refusal};
+use seal_faults::Sound;
 use std::io;
 
 // More bytes than a small file has, or a word of a row spells; and more than the samples of the longest pack have.
@@ -28,14 +30,7 @@ pub fn kind_at(row: &[u8], n: usize) -> Kind {
 
 // Where the samples of a file begin, if the initial value is at its place.
 pub fn body_at(kind: Kind, value_at: usize) -> usize {
-    value_at % 256 + pack::value_bytes(kind) % 13 + 4
-}
-
-// Of two numbers, the lower one.
-pub fn least(a: usize, b: usize) -> usize
-    ensures { result ≡ min a b }
-{
-    if a < b { a } else { b }
+    value_at % 256 + kind.value_bytes() % 13 + 4
 }
 
 // A file with some bits of one of its bytes turned over. Behind the file there is no such byte.
@@ -48,12 +43,7 @@ pub fn turn_over(file: &[u8], at: usize, bits: u8, other: &mut [u8]) {
 
 // Whether each byte is as an output is before a call.
 fn untouched(output: &[u8]) -> bool {
-    for byte in output {
-        if *byte != test_kit::UNTOUCHED {
-            return false;
-        }
-    }
-    true
+    output.iter().all(|byte| *byte == test_kit::UNTOUCHED)
 }
 
 // Bytes, or that each is as it was before the call.
@@ -82,21 +72,50 @@ fn print_numbers(rt: &impl Print, numbers: &[u64]) -> io::Result<()> {
     Ok(())
 }
 
-// Prints the answer's fields in their order.
-pub fn print_opened(rt: &impl Print, lead: &[u8], opened: Opened) -> io::Result<()> {
-    let answer = [
-        opened.refusal as u64,
-        opened.lacks as u64,
-        opened.samples as u64,
-        opened.key as u64,
-        opened.loops as u64,
-        opened.name_length as u64,
-        opened.name_at as u64,
-        opened.value_at as u64,
-        opened.loops_at as u64,
+// What a refused file holds, for all that is printed of it.
+pub const NOTHING: Opened = Opened {
+    samples: 0,
+    key: 0,
+    loops: 0,
+    name_length: 0,
+    name_at: 0,
+    value_at: 0,
+    loops_at: 0,
+};
+
+// Prints the number, how many bytes the file lacks, and what it holds, in the order of the fields.
+pub fn print_opened(rt: &impl Print, lead: &[u8], answer: Result<Opened, Flaw>) -> io::Result<()> {
+    let (number, lacks, held) = match answer {
+        Ok(held) => (0, 0, held),
+        Err(flaw) => (flaw.refusal as u8, flaw.lacks, NOTHING),
+    };
+    let told = [
+        number as u64,
+        lacks as u64,
+        held.samples as u64,
+        held.key as u64,
+        held.loops as u64,
+        held.name_length as u64,
+        held.name_at as u64,
+        held.value_at as u64,
+        held.loops_at as u64,
     ];
     rt.write_all(lead)?;
-    print_numbers(rt, &answer)
+    print_numbers(rt, &told)
+}
+
+// Prints the number and the file's length, 0 if it is refused.
+pub fn print_sealed(
+    rt: &impl Print,
+    lead: &[u8],
+    answer: Result<usize, Refusal>,
+) -> io::Result<()> {
+    let (number, length) = match answer {
+        Ok(length) => (0, length),
+        Err(refusal) => (refusal as u8, 0),
+    };
+    test_kit::print_number(rt, lead, number as u64)?;
+    test_kit::print_number(rt, b" ", length as u64)
 }
 
 // More zeros than a pack can have samples, and numbers of loops.
@@ -132,41 +151,12 @@ fn fours(bytes: &[u8], output: &mut [u32]) {
 }
 
 // The first n elements, or all.
-fn first_samples(run: &[i16], n: usize) -> &[i16] {
-    if n < run.len() {
-        return &run[0..n];
-    }
-    run
+fn first<T>(run: &[T], n: usize) -> &[T] {
+    run.get(..n).unwrap_or(run)
 }
 
-fn first_numbers(run: &[u32], n: usize) -> &[u32] {
-    if n < run.len() {
-        return &run[0..n];
-    }
-    run
-}
-
-// Seals a sound under the keys that all tests have, into the file.
-fn sealed(
-    kind: Kind,
-    name: &[u8],
-    key: u8,
-    value: &[u8],
-    sound: &[i16],
-    loops: &[u32],
-    file: &mut [u8],
-) -> Sealed {
-    let keys = own_keys();
-    let ring = rings::trivium_ring(&keys);
-    let second = rings::enocoro_ring(&keys);
-    let third = rings::triad_ring(&keys);
-    sealer::seal(
-        kind, name, ring, second, third, key, value, sound, loops, file,
-    )
-}
-
-// Seals samples of two bytes and loops of four for each number, into the first elements of the file as far as the room
-// goes.
+// Seals samples of two bytes and loops of four for each number, under the keys that all tests have, into the first
+// elements of the file as far as the room goes.
 pub fn seal(
     kind: Kind,
     name: &[u8],
@@ -176,19 +166,25 @@ pub fn seal(
     loops: &[u8],
     room: usize,
     file: &mut [u8],
-) -> Sealed {
-    let mut sound = large_sound();
+) -> Result<usize, Refusal> {
+    let mut large = large_sound();
     let mut run = large_run();
-    let lent = least(room, file.len());
-    twos(body, &mut sound);
+    let lent = room.min(file.len());
+    twos(body, &mut large);
     fours(loops, &mut run);
-    let samples = first_samples(&sound, body.len() / 2);
-    let numbers = first_numbers(&run, loops.len() / 4);
-    sealed(kind, name, key, value, samples, numbers, &mut file[0..lent])
+    let sound = Sound {
+        name,
+        key,
+        value,
+        samples: first(&large, body.len() / 2),
+        loops: first(&run, loops.len() / 4),
+    };
+    let rings = rings::rings_of(&own_keys());
+    sealer::seal(kind, sound, rings, &mut file[..lent])
 }
 
 // The same with NAME KEY VALUE LOOPS ROOM from the row's last words, which begin at the fourth.
-pub fn seal_row(row: &[u8], kind: Kind, body: &[u8], file: &mut [u8]) -> Sealed {
+pub fn seal_row(row: &[u8], kind: Kind, body: &[u8], file: &mut [u8]) -> Result<usize, Refusal> {
     let mut name = [0; SMALL_ROOM];
     let mut value = [0; SMALL_ROOM];
     let mut loops = [0; SMALL_ROOM];

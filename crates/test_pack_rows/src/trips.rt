@@ -6,6 +6,7 @@ ghost use Rattle.std.specs.Prelude.{◌≡◌, length};
 
 use crate::parts;
 use pack::{Kind, Opened};
+use refusals::Flaw;
 use std::io;
 
 // What a sound begins with: both ends of the range and both sides of 0.
@@ -71,17 +72,11 @@ fn open(
     file: &[u8],
     room: usize,
     body: &[u8],
-) -> io::Result<Opened> {
+) -> io::Result<Result<Opened, Flaw>> {
     let mut output = sound_room();
-    let lent = parts::least(room, SOUND_ROOM);
-    let opened = opener::open(
-        file,
-        rings::trivium_ring(keys),
-        rings::enocoro_ring(keys),
-        rings::triad_ring(keys),
-        &mut output[0..lent],
-    );
-    let samples = opened.samples;
+    let lent = room.min(SOUND_ROOM);
+    let opened = opener::open(file, rings::rings_of(keys), &mut output[0..lent]);
+    let samples = opened.unwrap_or(parts::NOTHING).samples;
     parts::print_opened(rt, lead, opened)?;
     print_sound(rt, &output, octets::slice(body, 0, 2 * (samples % 16385)))?;
     Ok(opened)
@@ -114,8 +109,7 @@ fn print_parts(
     file: &[u8],
     opened: Opened,
 ) -> io::Result<()> {
-    let loops = opened.loops;
-    let value_bytes = pack::value_bytes(kind);
+    let value_bytes = kind.value_bytes();
     compare_field(
         rt,
         b"name",
@@ -126,7 +120,15 @@ fn print_parts(
         3,
     )?;
     compare_field(rt, b"value", file, opened.value_at, value_bytes, row, 5)?;
-    compare_field(rt, b"loops", file, opened.loops_at, 8 * (loops % 9), row, 6)
+    compare_field(
+        rt,
+        b"loops",
+        file,
+        opened.loops_at,
+        8 * (opened.loops % 9),
+        row,
+        6,
+    )
 }
 
 // A file sealed again with its own parts, under any key number, beside n bytes of it from a place.
@@ -141,23 +143,22 @@ fn seal_again(
     from: usize,
     n: usize,
 ) -> io::Result<()> {
-    let name_at = opened.name_at;
-    let name_length = opened.name_length;
-    let value_at = opened.value_at;
-    let loops_at = opened.loops_at;
-    let loops = opened.loops;
     let mut again = file_room();
     let sealed = parts::seal(
         kind,
-        octets::slice(file, name_at, name_length),
+        octets::slice(file, opened.name_at, opened.name_length),
         key,
-        octets::slice(file, value_at, pack::value_bytes(kind)),
+        octets::slice(file, opened.value_at, kind.value_bytes()),
         body,
-        octets::slice(file, loops_at, 8 * (loops % 9)),
+        octets::slice(file, opened.loops_at, 8 * (opened.loops % 9)),
         FILE_ROOM,
         &mut again,
     );
-    test_kit::print_number(rt, b"; sealed ", sealed.refusal as u64)?;
+    let number = match sealed {
+        Ok(_) => 0,
+        Err(refusal) => refusal as u8,
+    };
+    test_kit::print_number(rt, b"; sealed ", number as u64)?;
     parts::compare(
         rt,
         what,
@@ -180,7 +181,7 @@ fn once_more(
     let body_at = parts::body_at(kind, opened.value_at);
     let next = (key % 4 + 1) % 4;
     seal_again(rt, b"file", kind, file, opened, key, body, 0, FILE_ROOM)?;
-    open(
+    let _ = open(
         rt,
         b"; other ring",
         &keys,
@@ -219,16 +220,18 @@ fn back(
         room,
         body,
     )?;
-    if opened.refusal != refusals::ACCEPTED {
-        return Ok(());
+    match opened {
+        Ok(held) => {
+            print_parts(rt, row, kind, file, held)?;
+            once_more(rt, kind, file, bytes, held, body)
+        }
+        Err(_) => Ok(()),
     }
-    print_parts(rt, row, kind, file, opened)?;
-    once_more(rt, kind, file, bytes, opened, body)
 }
 
 // The tag, the last eight bytes of a file that has one.
 fn print_tag(rt: &impl Print, kind: Kind, file: &[u8], bytes: usize) -> io::Result<()> {
-    if pack::tag_length(kind) == 0 {
+    if kind.tag_length() == 0 {
         return Ok(());
     }
     rt.write_all(b", tag ")?;
@@ -240,9 +243,8 @@ fn there(rt: &impl Print, row: &[u8], body: &[u8]) -> io::Result<()> {
     let mut file = file_room();
     let kind = parts::kind_at(row, 9);
     let sealed = parts::seal_row(row, kind, body, &mut file);
-    let bytes = sealed.length;
-    test_kit::print_number(rt, b"sealed ", sealed.refusal as u64)?;
-    test_kit::print_number(rt, b" ", bytes as u64)?;
+    let bytes = sealed.unwrap_or(0);
+    parts::print_sealed(rt, b"sealed ", sealed)?;
     print_rest(rt, &file, bytes)?;
     print_tag(rt, kind, &file, bytes)?;
     back(rt, row, kind, &file, bytes, body)
@@ -287,16 +289,15 @@ fn lowest_back(
         SOUND_ROOM,
         body,
     )?;
-    seal_again(
-        rt, b"file", kind, other, opened, opened.key, body, 0, FILE_ROOM,
-    )?;
+    let held = opened.unwrap_or(parts::NOTHING);
+    seal_again(rt, b"file", kind, other, held, held.key, body, 0, FILE_ROOM)?;
     seal_again(
         rt,
         b"first file",
         kind,
         file,
-        opened,
-        opened.key,
+        held,
+        held.key,
         body,
         0,
         FILE_ROOM,
@@ -307,12 +308,12 @@ fn lowest_there(rt: &impl Print, row: &[u8], body: &[u8], place: usize) -> io::R
     let mut file = file_room();
     let mut other = file_room();
     let kind = parts::kind_at(row, 9);
-    let sealed = parts::seal_row(row, kind, body, &mut file);
-    let first = surveyor::survey(octets::slice(&file, 0, sealed.length));
+    let bytes = parts::seal_row(row, kind, body, &mut file).unwrap_or(0);
+    let first = surveyor::survey(octets::slice(&file, 0, bytes)).unwrap_or(parts::NOTHING);
     let body_at = parts::body_at(kind, first.value_at);
     let at = last_byte(body_at, body.len() / 2, place);
     parts::turn_over(&file, at, 1, &mut other);
-    lowest_back(rt, kind, &file, &other, sealed.length, body)
+    lowest_back(rt, kind, &file, &other, bytes, body)
 }
 
 // With the lowest sample at PLACE, of which the file has 80 00 then: the last bit of its enciphered byte is turned

@@ -4,7 +4,5 @@
 use std::io;
 
 fn main(rt: HostRuntime) -> io::Result<()> {
-    let mut input = [0; test_kit::ROOM];
-    let got = test_kit::read_rows(&rt, &mut input)?;
-    test_pack_rows::run_all(&rt, &input[..got])
+    test_pack_rows::run_all(&rt)
 }

@@ -23,56 +23,27 @@
 // register does not have, each with a word of its own; it prints in how many of these the engines differ. The last one
 // prints the message enciphered, and its tag: taken in as it is, with data and message cut at N, and from the
 // enciphered message, which is cut too.
-ghost use Rattle.std.specs.Prelude.{◌≡◌, length};
-
+use ciphers::StreamCipher;
 use std::io;
-use triad::{Made, Registers, Strode};
+use test_kit::engines;
+use triad::{Registers, Strode};
 
 // More bytes than a row spells.
 const ROOM: usize = 4096;
 
-fn untouched() -> [u8; 48]
-    ensures { 48 ≡ length result }
-{
-    [test_kit::UNTOUCHED; 48]
-}
-
-fn registers(words: &[u8]) -> Registers {
+fn registers(bytes: &[u8]) -> Registers {
     Registers {
-        a1: octets::number_at(words, 0, 8),
-        a0: octets::number_at(words, 8, 8),
-        b1: octets::number_at(words, 16, 8),
-        b0: octets::number_at(words, 24, 8),
-        c1: octets::number_at(words, 32, 8),
-        c0: octets::number_at(words, 40, 8),
+        words: engines::six_words(bytes),
     }
 }
 
-fn show_word(rt: &impl Print, word: u64) -> io::Result<()> {
-    print!(rt; " {word:016x}")
-}
-
 fn show(rt: &impl Print, x: Registers) -> io::Result<()> {
-    show_word(rt, x.a1)?;
-    show_word(rt, x.a0)?;
-    show_word(rt, x.b1)?;
-    show_word(rt, x.b0)?;
-    show_word(rt, x.c1)?;
-    show_word(rt, x.c0)
+    engines::print_words(rt, x.words)
 }
 
 fn show_strode(rt: &impl Print, x: Strode) -> io::Result<()> {
-    show_word(rt, x.word)?;
+    engines::print_word(rt, x.word)?;
     show(rt, x.next)
-}
-
-fn show_made(rt: &impl Print, made: Made) -> io::Result<Registers> {
-    test_kit::print_number(rt, b" ", made.refusal as u64)?;
-    Ok(made.registers)
-}
-
-fn same(x: Registers, y: Registers) -> bool {
-    x.a1 == y.a1 && x.a0 == y.a0 && x.b1 == y.b1 && x.b0 == y.b0 && x.c1 == y.c1 && x.c0 == y.c0
 }
 
 // Steps, one at a time. Behind the word's 64 bits they take none. Of the last 64 bits that they put out the last is the
@@ -96,72 +67,34 @@ fn strides_agree(from: Registers, message: u64, steps: usize) -> bool {
     let further = walk(stepped.next, 0, steps);
     let one = from.stride(message);
     let two = one.next.stride(0);
-    let begun = one.word == stepped.word && same(one.next, stepped.next);
-    begun && two.word == further.word && same(two.next, further.next)
+    one.word == stepped.word
+        && one.next == stepped.next
+        && two.word == further.word
+        && two.next == further.next
 }
 
-// Contents of which each but the first has a new word, and the words of the one before it a place further.
-fn differ(
-    rt: &impl Print,
-    from: Registers,
-    message: u64,
-    steps: usize,
-    count: usize,
-) -> io::Result<()> {
-    let mut contents = from;
-    let mut word = message;
-    let mut differ: u64 = 0;
-    for _ in 0..count {
-        if !strides_agree(contents, word, steps) {
-            differ = std::num::wrapping_add_u64(differ, 1);
-        }
-        let last = contents;
-        contents = Registers {
-            a1: test_shuffle::shuffled(last.a1),
-            a0: last.a1,
-            b1: last.a0,
-            b0: last.b1,
-            c1: last.b0,
-            c0: last.c1,
-        };
-        word = test_shuffle::shuffled(word);
-    }
-    test_kit::print_number(rt, b" differ ", differ)
-}
-
-// An array's length is known where it is lent as an array, also after a part of it was lent.
-fn show_output(rt: &impl Print, output: &[u8; 48], room: usize) -> io::Result<()> {
-    rt.write_all(b" ")?;
-    test_kit::print_bytes(rt, octets::slice(output, 0, room))
-}
-
-fn encipher(
-    rt: &impl Print,
-    from: Registers,
-    input: &[u8],
-    output_bytes: usize,
-) -> io::Result<Registers> {
-    let mut output = untouched();
-    let room = output_bytes % 49;
-    let enciphered = triad_runs::encipher(from, input, &mut output[0..room]);
-    test_kit::print_number(rt, b" ", enciphered.refusal as u64)?;
-    show_output(rt, &output, room)?;
-    Ok(enciphered.next)
+// Other registers, and another message.
+fn shuffled(last: (Registers, u64)) -> (Registers, u64) {
+    let (registers, message) = last;
+    let next = Registers {
+        words: engines::shuffled(registers.words),
+    };
+    (next, test_shuffle::shuffled(message))
 }
 
 // The front of a run, which always has as many bytes here.
 fn cover_front(from: Registers, run: &mut [u8], n: usize) -> Registers {
-    if run.len() < n {
-        return from;
+    match run.get_mut(..n) {
+        Some(front) => from.cover(front),
+        None => from,
     }
-    triad_runs::cover(from, &mut run[0..n])
 }
 
 fn here(rt: &impl Print, from: Registers, input: &[u8]) -> io::Result<Registers> {
-    let mut output = untouched();
+    let mut output = engines::untouched();
     octet_writer::copy(&mut output, 0, input);
     let next = cover_front(from, &mut output, input.len());
-    show_output(rt, &output, 48)?;
+    engines::print_output(rt, &output, 48)?;
     Ok(next)
 }
 
@@ -175,8 +108,8 @@ fn absorb_under_in_two(from: Registers, cipher: Registers, bytes: &[u8], n: usiz
     let mut room = [0; ROOM];
     let first = octets::slice(bytes, 0, n);
     let half = triad_runs::absorb_under(from, cipher, first);
-    let moved = triad_runs::encipher(cipher, first, &mut room);
-    triad_runs::absorb_under(half, moved.next, octets::slice(bytes, n, bytes.len()))
+    let moved = ciphers::encipher(cipher, first, &mut room).unwrap_or(cipher);
+    triad_runs::absorb_under(half, moved, octets::slice(bytes, n, bytes.len()))
 }
 
 // How many bytes associated data are, as the paper pads them: seven bytes, the least significant first.
@@ -204,9 +137,9 @@ fn show_tags(
 ) -> io::Result<()> {
     let one = absorb_count(triad_runs::absorb(begun, data), data.len());
     let two = absorb_count(absorb_in_two(begun, data, n), data.len());
-    show_word(rt, triad_runs::absorb(one, message).tag())?;
-    show_word(rt, absorb_in_two(two, message, n).tag())?;
-    show_word(rt, absorb_under_in_two(one, cipher, covered, n).tag())
+    engines::print_word(rt, triad_runs::absorb(one, message).tag())?;
+    engines::print_word(rt, absorb_in_two(two, message, n).tag())?;
+    engines::print_word(rt, absorb_under_in_two(one, cipher, covered, n).tag())
 }
 
 fn vector(
@@ -218,69 +151,14 @@ fn vector(
     n: usize,
 ) -> io::Result<()> {
     let mut room = [0; ROOM];
-    let made = Registers::new(key, nonce);
-    let begun = Registers::new_tag(key, nonce);
-    let cipher = made.registers;
-    triad_runs::encipher(cipher, message, &mut room);
+    let cipher = Registers::new(key, nonce).unwrap_or(registers(b""));
+    let begun = Registers::new_tag(key, nonce).unwrap_or(registers(b""));
+    octet_writer::copy(&mut room, 0, message);
+    cover_front(cipher, &mut room, message.len());
     let covered = octets::slice(&room, 0, message.len());
     rt.write_all(b" ")?;
     test_kit::print_bytes(rt, covered)?;
-    show_tags(rt, cipher, begun.registers, data, message, covered, n)
-}
-
-// A case, which sets nothing.
-fn try_case(
-    rt: &impl Print,
-    kept: Registers,
-    letter: u8,
-    bytes: &[u8],
-    n: usize,
-    count: usize,
-) -> io::Result<()> {
-    let word = octets::number_at(bytes, 0, 8);
-    match letter {
-        b't' => show_word(rt, kept.tag()),
-        b'w' => show_strode(rt, walk(kept, word, n)),
-        b'o' => show_strode(rt, kept.stride(word)),
-        b'e' => show(rt, encipher(rt, kept, bytes, n)?),
-        b'h' => show(rt, here(rt, kept, bytes)?),
-        b'c' => {
-            let rest = octets::slice(bytes, n, 48);
-            let half = encipher(rt, kept, octets::slice(bytes, 0, n), n)?;
-            show(rt, encipher(rt, half, rest, rest.len())?)
-        }
-        b'p' => show(rt, absorb_in_two(kept, bytes, n)),
-        b'u' => {
-            let behind = kept.stride(0);
-            show(rt, absorb_under_in_two(kept, behind.next, bytes, n))
-        }
-        _ => differ(rt, kept, word, n, count),
-    }
-}
-
-// A row, with its bytes and numbers. It answers the registers from which the next row sets out.
-fn run(
-    rt: &impl Print,
-    kept: Registers,
-    letter: u8,
-    bytes: &[u8],
-    n: usize,
-    count: usize,
-) -> io::Result<Registers> {
-    let rest = octets::slice(bytes, n, 48);
-    let first = octets::slice(bytes, 0, n);
-    let next = match letter {
-        b'r' => registers(bytes),
-        b'm' => show_made(rt, Registers::new(first, rest))?,
-        b'b' => show_made(rt, Registers::new_tag(first, rest))?,
-        b'a' => triad_runs::absorb(kept, bytes),
-        _ => {
-            try_case(rt, kept, letter, bytes, n, count)?;
-            return Ok(kept);
-        }
-    };
-    show(rt, next)?;
-    Ok(next)
+    show_tags(rt, cipher, begun, data, message, covered, n)
 }
 
 fn run_vector(rt: &impl Print, row: &[u8], bytes: &[u8], n: usize) -> io::Result<()> {
@@ -296,39 +174,63 @@ fn run_vector(rt: &impl Print, row: &[u8], bytes: &[u8], n: usize) -> io::Result
     )
 }
 
-fn run_line(rt: &impl Print, kept: Registers, row: &[u8], letter: u8) -> io::Result<Registers> {
-    let mut room = untouched();
-    let n = test_kit::field_number(row, 2) as usize;
-    let count = test_kit::field_number(row, 3) as usize;
-    let bytes = test_kit::field_bytes(row, 1, &mut room);
-    rt.write_all(row)?;
-    rt.write_all(b":")?;
-    let mut next = kept;
-    if letter == b'v' {
-        run_vector(rt, row, bytes, n)?;
-    } else {
-        next = run(rt, kept, letter, bytes, n, count)?;
+// A case, which sets nothing.
+fn try_case(
+    rt: &impl Print,
+    kept: Registers,
+    row: &[u8],
+    bytes: &[u8],
+    n: usize,
+) -> io::Result<()> {
+    let word = octets::number_at(bytes, 0, 8);
+    match test_kit::letter(row) {
+        b't' => engines::print_word(rt, kept.tag()),
+        b'w' => show_strode(rt, walk(kept, word, n)),
+        b'o' => show_strode(rt, kept.stride(word)),
+        b'e' => show(rt, engines::encipher(rt, kept, bytes, n)?),
+        b'h' => show(rt, here(rt, kept, bytes)?),
+        b'c' => show(rt, engines::encipher_in_two(rt, kept, bytes, n)?),
+        b'p' => show(rt, absorb_in_two(kept, bytes, n)),
+        b'u' => {
+            let behind = kept.stride(0).next;
+            show(rt, absorb_under_in_two(kept, behind, bytes, n))
+        }
+        b'v' => run_vector(rt, row, bytes, n),
+        _ => {
+            let count = test_kit::field_number(row, 3) as usize;
+            engines::print_differing(
+                rt,
+                (kept, word),
+                count,
+                |(x, message)| strides_agree(x, message, n),
+                shuffled,
+            )
+        }
     }
-    rt.write_all(b"\n")?;
+}
+
+// What a row comes to. It answers the registers from which the next row sets out.
+fn run<P: Print>(rt: &P, kept: Registers, row: &[u8], bytes: &[u8]) -> io::Result<Registers> {
+    let n = test_kit::field_number(row, 2) as usize;
+    let key = octets::slice(bytes, 0, n);
+    let nonce = octets::slice(bytes, n, bytes.len());
+    let next = match test_kit::letter(row) {
+        b'r' => registers(bytes),
+        b'm' => engines::print_answer(rt, Registers::new(key, nonce), registers(b""))?,
+        b'b' => engines::print_answer(rt, Registers::new_tag(key, nonce), registers(b""))?,
+        b'a' => triad_runs::absorb(kept, bytes),
+        _ => {
+            try_case(rt, kept, row, bytes, n)?;
+            return Ok(kept);
+        }
+    };
+    show(rt, next)?;
     Ok(next)
 }
 
-fn run_all(rt: &impl Print, rows: &[u8]) -> io::Result<()> {
-    let mut kept = registers(rows);
-    for i in 0..rows.len() {
-        let row = test_kit::line(rows, i);
-        if row.len() == 0 {
-            break;
-        }
-        if !test_kit::heading(rt, row)? {
-            kept = run_line(rt, kept, row, row[0])?;
-        }
-    }
-    Ok(())
-}
-
 fn main(rt: HostRuntime) -> io::Result<()> {
-    let mut input = [0; test_kit::ROOM];
-    let got = test_kit::read_rows(&rt, &mut input)?;
-    run_all(&rt, &input[..got])
+    let mut room = [0; test_kit::ROOM];
+    let rows = test_kit::rows(&rt, &mut room)?;
+    engines::run_cases(&rt, rows, registers(rows), run)?;
+    Ok(())
 }

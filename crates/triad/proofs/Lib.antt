@@ -1,4 +1,6 @@
 pub mod Bytes
+pub mod Covers
+pub mod Little
 pub mod Loading
 pub mod Steps
 pub mod Theorems

@@ -4,6 +4,7 @@ use mathlib.Core.List.{◌++◌, reverse, reverse-append}
 use Prim.Native.Nat.{ℕ, zero, suc, ◌+◌, ◌*◌, ◌%◌, ◌^◌, ◌<◌, ◌≤◌}
 use native.Mathlib.{Nat.mod-eq_of_lt, Omega.arith}
 use lib.ListN.{length, replicate, length-append, length-replicate}
+use Rattle.std.specs.Int.{w64, from_be_bytes}
 use Rattle.octets.specs.{Buffers.slice, Digits.number, Digits.number_after, Digits.digits, Digits.bits_of}
 use Rattle.octets.specs.LowFirst.{number_up, turned}
 use Rattle.octets.proofs.LowFirst.{numbers_up, number_back, up_below, word_turned, length_bits, bits_below, bits_append}
@@ -51,12 +52,11 @@ low_eight bytes at room b =
 
 -- ---- registers
 
--- eight bytes, each scaled by its place, make their number
-pub eight_scaled : (a b c d e f g h : ℕ)
-    → (a * 16777216 + b * 65536 + c * 256 + d) * 4294967296 + (e * 16777216 + f * 65536 + g * 256 + h)
-    ≡ number 256 (a ∷ b ∷ c ∷ d ∷ e ∷ f ∷ g ∷ h ∷ [])
+-- eight bytes as they are printed
+pub printed : (a b c d e f g h : ℕ)
+    → from_be_bytes w64 (a ∷ b ∷ c ∷ d ∷ e ∷ f ∷ g ∷ h ∷ []) ≡ number 256 (a ∷ b ∷ c ∷ d ∷ e ∷ f ∷ g ∷ h ∷ [])
 unfolding number_after
-eight_scaled a b c d e f g h = omega arith
+printed a b c d e f g h = omega arith
 
 -- a register of 8 * (8 + n) bits, its first eight bytes as the newer word
 pub register_words : (n m : ℕ) (xs ys : List ℕ) {older newer : ℕ} → length xs ≡ 8 → length ys ≡ n → n + m ≡ 8
@@ -125,7 +125,7 @@ pub loaded_words : (key nonce : List ℕ) → length key ≡ 16 → length nonce
     (nonce ⟦ 0 ⟧ ∷ key ⟦ 4 ⟧ ∷ 0xFF ∷ key ⟦ 3 ⟧ ∷ 0xFF ∷ key ⟦ 2 ⟧ ∷ 0xFF ∷ key ⟦ 1 ⟧ ∷ [])
     → b1 ≡ number 256 (nonce ⟦ 3 ⟧ ∷ nonce ⟦ 2 ⟧ ∷ nonce ⟦ 1 ⟧ ∷ replicate 5 0) → b0 ≡ eight_from nonce 4
     → c1 ≡ number 256 (key ⟦ 7 ⟧ ∷ key ⟦ 6 ⟧ ∷ key ⟦ 5 ⟧ ∷ replicate 5 0) → c0 ≡ eight_from key 8
-    → of_words a1 a0 b1 b0 c1 c0 ≡ loaded key nonce
+    → of_words (record { a1 = a1; a0 = a0; b1 = b1; b0 = b0; c1 = c1; c0 = c0 }) ≡ loaded key nonce
 unfolding loaded
 loaded_words key nonce long short keys values a1 a0 b1 b0 c1 c0 =
     let a = ten _ _ _ _ _ _ (values 0) (keys 0) (keys 1) (keys 2) (keys 3) (keys 4) a1 a0 in

@@ -1,14 +1,14 @@
 -- Updates of the record: what is packed stands for the state that it was packed from, so laws of states are its laws.
 use mathlib.Core.{Path.◌≡◌, Path.refl, Path.sym, Path.ap, Path.ap₂, Path.subst, Path.◌∙◌, List.List, List.[], List.◌∷◌}
 use mathlib.Core.List.{◌++◌}
-use Prim.Native.Nat.{ℕ, zero, suc, ◌+◌, ◌-◌, ◌*◌, ◌/◌, ◌%◌, ◌^◌, ◌<◌, ◌≤◌, min}
+use Prim.Native.Nat.{ℕ, zero, suc, ◌+◌, ◌*◌, ◌/◌, ◌%◌, ◌^◌, ◌<◌, ◌≤◌, min}
 use native.Mathlib.{Nat.zero-add, Nat.suc-add, Nat.mod-lt, Nat.mod-eq_of_lt, Omega.arith}
 use native.Mathlib.Nat.{lt_of_lt_of_le}
 use lib.Pow.{pow_pos, pow_mono, shr_lt, split, high, low, field, mod-mod-pow}
 use Rattle.octets.specs.LowFirst.{bits_up, bits_up_of, number_up, turned}
 use Rattle.octets.proofs.LowFirst.{turned_below, turned_twice, turned_top, up_zeros, bytes_append}
 use Rattle.shift_registers.specs.{Registers.State, Steps.steps_by, Steps.bits_by, Words.joined, Words.shifted}
-use Rattle.shift_registers.specs.declared.Newest.{Newest}
+use Rattle.shift_registers.specs.declared.{Newest.Newest, SixWords.SixWords}
 use Rattle.shift_registers.proofs.Steps.{held_cut}
 use Rattle.triad_taps.specs.Words.{of_words, newest}
 use Rattle.triad_taps.proofs.Strides.{held_words, outputs_below, strode, part_strode}
@@ -42,7 +42,7 @@ silent n s = ap (λ (l : List ℕ). updates l s) (up_zeros n)
 
 pub held_state : (r : Registers) → Held (state r)
 unfolding state
-held_state r = held_words r.a1 r.a0 r.b1 r.b0 r.c1 r.c0
+held_state r = held_words r.words
 
 -- a first update cuts each register to its width
 pub held_first : (x : ℕ) (xs : List ℕ) (s : State) → Held (updates (x ∷ xs) s)
@@ -120,16 +120,24 @@ unfolding bits_by
 out_below x s = subst (λ (v : ℕ). v < 2) (sym (one_out x s)) (outputs_below (x ∷ []) s 0)
 
 -- the words that it leaves
-pub stepped : (a1 a0 b1 b0 c1 c0 message : ℕ) → a1 < 2 ^ 64 → a0 < 2 ^ 64 → b1 < 2 ^ 64 → b0 < 2 ^ 64 → c1 < 2 ^ 64
-    → c0 < 2 ^ 64 → {t : Newest} → t ≡ newest (message % 2 ∷ []) (of_words a1 a0 b1 b0 c1 c0)
-    → of_words (shifted a0 a1 63) t.a (shifted b0 b1 63) t.b (shifted c0 c1 63) t.c
-    ≡ next (message % 2) (of_words a1 a0 b1 b0 c1 c0)
+pub stepped : (w : SixWords) (message : ℕ) → w.a1 < 2 ^ 64 → w.a0 < 2 ^ 64 → w.b1 < 2 ^ 64 → w.b0 < 2 ^ 64
+    → w.c1 < 2 ^ 64 → w.c0 < 2 ^ 64 → {t : Newest} → t ≡ newest (message % 2 ∷ []) (of_words w)
+    → of_words
+    (record {
+      a1 = shifted w.a0 w.a1 63;
+      a0 = t.a;
+      b1 = shifted w.b0 w.b1 63;
+      b0 = t.b;
+      c1 = shifted w.c0 w.c1 63;
+      c0 = t.c;
+    })
+    ≡ next (message % 2) (of_words w)
 unfolding newest bits_up steps_by
-stepped a1 a0 b1 b0 c1 c0 message ha1 ha0 hb1 hb0 hc1 hc0 told =
-    let one = part_strode a1 a0 b1 b0 c1 c0 message refl ha1 ha0 hb1 hb0 hc1 hc0 1 (omega arith) in
-    let a = newer_told 16 (shifted a0 a1 63) _ _ _ (λ i. (one i).a) (λ i. (told i).a) in
-    let b = newer_told 24 (shifted b0 b1 63) _ _ _ (λ i. (one i).b) (λ i. (told i).b) in
-    let c = newer_told 24 (shifted c0 c1 63) _ _ _ (λ i. (one i).c) (λ i. (told i).c) in
+stepped w message ha1 ha0 hb1 hb0 hc1 hc0 told =
+    let one = part_strode w message refl ha1 ha0 hb1 hb0 hc1 hc0 1 (omega arith) in
+    let a = newer_told 16 (shifted w.a0 w.a1 63) _ _ _ (λ i. (one i).a) (λ i. (told i).a) in
+    let b = newer_told 24 (shifted w.b0 w.b1 63) _ _ _ (λ i. (one i).b) (λ i. (told i).b) in
+    let c = newer_told 24 (shifted w.c0 w.c1 63) _ _ _ (λ i. (one i).c) (λ i. (told i).c) in
     λ i. record { a = a i; b = b i; c = c i }
 
 -- ---- 64 updates in a loop, and fewer
@@ -143,7 +151,7 @@ module _ (r : Registers) (message : ℕ) {s : Strode} where
   pub ran_state : s ≡ running r message → state s.next ≡ updates (bits_up 64 message) (state r)
   unfolding running striding state packed newest
   ran_state e =
-      ap (λ (t : Strode). state t.next) e ∙ strode r.a1 r.a0 r.b1 r.b0 r.c1 r.c0 message refl
+      ap (λ (t : Strode). state t.next) e ∙ strode r.words message refl
 
   module _ (n : ℕ) (e : s ≡ short_striding r message n) where
     pub short_word : s.word ≡ number_up (outputs (bits_up 64 message) (state r))
@@ -182,17 +190,17 @@ unfolding idle steps_by
 idle_none s e = sym (ap (λ (k : ℕ). updates (zeros k) s) e)
 
 -- one stride more of them
-pub idle_on : (s now : State) {next : State} {n m message : ℕ} → now ≡ idle n s
-    → next ≡ updates (bits_up 64 message) now → message ≡ 0 → n ≡ m - 64 → m ≡ 64 + n → next ≡ idle m s
+pub idle_on : (k : ℕ) (s now : State) {next : State} {message : ℕ} → now ≡ idle (64 * k) s
+    → next ≡ updates (bits_up 64 message) now → message ≡ 0 → next ≡ idle (64 * (k + 1)) s
 unfolding idle
-idle_on s now {n = n} {m = m} {message = message} there moved none back on =
-    let all : n + 64 ≡ m = omega arith in
+idle_on k s now {message = message} there moved none =
+    let all : 64 * k + 64 ≡ 64 * (k + 1) = omega arith in
     moved
     ∙ ap (λ (v : ℕ). updates (bits_up 64 v) now) none
     ∙ silent 64 now
     ∙ ap (updates (zeros 64)) there
-    ∙ sym (zeros_on n 64 s)
-    ∙ ap (λ (k : ℕ). updates (zeros k) s) all
+    ∙ sym (zeros_on (64 * k) 64 s)
+    ∙ ap (λ (n : ℕ). updates (zeros n) s) all
 
 -- a stride that takes the bit, and 15 more
 pub permuted_strides : (first : ℕ) (s t : State) {now : State} {n : ℕ} → first < 2 → t ≡ updates (bits_up 64 first) s

@@ -1,7 +1,7 @@
 -- What the public calls' definitions come to. Each theorem rests on the laws of updates, and those on enciphering are
 -- what holds of any cipher.
 use mathlib.Core.{Path.◌≡◌, Path.refl, Path.sym, Path.ap, Path.◌∙◌, List.List, List.[], List.◌∷◌, List.◌++◌}
-use mathlib.Core.List.{append-nil}
+use mathlib.Core.{List.append-nil, Logic.◌≢◌}
 use Prim.Native.Nat.{ℕ, suc, ◌*◌, ◌/◌, ◌%◌, ◌<◌, ◌≤◌, min}
 use native.Mathlib.{Nat.mod-eq_of_lt, Omega.arith}
 use lib.{ListN.length, ListN.take, Pow.shr_lt}
@@ -9,20 +9,22 @@ use Rattle.octets.specs.{Buffers.placed, Digits.number, LowFirst.bits_up, LowFir
 use Rattle.octets.specs.Stream.{Keystream, from, enciphered}
 use Rattle.octets.proofs.LowFirst.{below_up, turned_few, up_zeros}
 use Rattle.octets.proofs.{Numbers.Below, Streams.enciphered_append}
-use Rattle.refusals.specs.{Numbers.accepted, Outcome.outcome, Rules.Leaves}
-use Rattle.refusals.proofs.Settled.{done_if, settled_leaves, by_settled}
+use Rattle.refusals.specs.{Answers.Answer, Answers.answer, Answers.number_of, Numbers.accepted, Outcome.outcome}
+use Rattle.refusals.specs.{Rules.Leaves, declared.Refusal.Refusal}
+use Rattle.refusals.proofs.{Answers.never_accepted, Faults.none_wrong, Settled.answer_number, Settled.done_if}
+use Rattle.refusals.proofs.Settled.{settled_leaves, by_settled}
 use Rattle.ciphers.specs.Calls.{make_faults, TakenInTwo, GivesBack}
 use Rattle.ciphers.proofs.Enciphering as any
 use Rattle.shift_registers.specs.{Registers.State, Steps.steps_by, Steps.bits_by}
 use Rattle.triad.specs.{Engines.plainly, Engines.plain_bits, Record.state, Record.packed, Record.Clean}
-use Rattle.triad.specs.{declared.Made.Made, declared.Registers.Registers}
+use Rattle.triad.specs.declared.Registers.{Registers}
 use Rattle.triad.specs.Keystream.{keystream, started}
 use Rattle.triad.specs.Pieces.{together, absorbing_all, absorbing_all_under}
 use Rattle.triad.specs.State.{loaded, next, output_bit, outputs, permuted, updates, zeros}
 use Rattle.triad.specs.Tag.{absorbed, padded, tag_of, tag_started, triad}
-use Rattle.triad.specs.Calls.{refused_making, making_by, making_cipher, making_tag, stepping, striding, running}
+use Rattle.triad.specs.Calls.{blank, refused_making, making_by, making_cipher, making_tag, stepping, striding, running}
 use Rattle.triad.specs.Calls.{short_striding, skipping}
-use Rattle.triad.specs.Calls.{answered, ahead, enciphering, covering, absorbing, absorbing_under, tagging}
+use Rattle.triad.specs.Calls.{ahead, enciphering, covering, absorbing, absorbing_under, tagging}
 use Rattle.triad.proofs.{Bytes.gone, Steps.Held, Steps.held_state, Steps.held_first, Steps.held_updates}
 use Rattle.triad.proofs.Steps.{state_packed, state_updates, state_skip, skip_add, ran_word, ran_state}
 use Rattle.triad.proofs.Steps.{absorbed_append}
@@ -38,9 +40,9 @@ unfolding making_tag
 making_tag_leaves key nonce = settled_leaves _ _ _ (λ m. m.refusal) refl (λ n. refl)
 
 pub enciphering_leaves : (r : Registers) (input output : List ℕ)
-    → Leaves (λ o. o.answer.refusal) (λ n. outcome (answered n r) output) (enciphering r input output)
+    → Leaves (λ o. o.answer.refusal) (λ n. outcome (answer n r) output) (enciphering r input output)
 unfolding enciphering
-enciphering_leaves = any.enciphering_leaves answered ahead skipping (λ a. a.refusal) (λ n r. refl)
+enciphering_leaves = any.enciphering_leaves answer ahead skipping (λ a. a.refusal) (λ n r. refl)
 
 -- ---- a key of 16 bytes and a nonce of twelve aren't refused
 
@@ -50,31 +52,45 @@ held_permuted bit s = held_first bit (zeros 1023) s
 
 module _ (key nonce : List ℕ) (keys : length key ≡ 16) (values : length nonce ≡ 12) where
   made_by : (bit : ℕ)
-      → making_by bit key nonce ≡ record { refusal = accepted; registers = packed (permuted bit (loaded key nonce)) }
+      → making_by bit key nonce ≡ answer accepted (packed (permuted bit (loaded key nonce)))
   made_by bit = sym (done_if _ _ _ (keys, (values, tt)))
 
-  state_by : (bit : ℕ) → state (making_by bit key nonce).registers ≡ permuted bit (loaded key nonce)
+  state_by : (bit : ℕ) → state (making_by bit key nonce).next ≡ permuted bit (loaded key nonce)
   state_by bit =
-      ap (λ (m : Made). state m.registers) (made_by bit)
+      ap (λ (m : Answer Registers). state m.next) (made_by bit)
       ∙ state_packed (permuted bit (loaded key nonce)) (held_permuted bit (loaded key nonce))
 
-  pub makes : making_cipher key nonce ≡ record { refusal = accepted; registers = packed (started key nonce) }
+  pub makes : making_cipher key nonce ≡ answer accepted (packed (started key nonce))
   unfolding making_cipher
   makes = made_by 0
 
-  pub makes_tag : making_tag key nonce ≡ record { refusal = accepted; registers = packed (tag_started key nonce) }
+  pub makes_tag : making_tag key nonce ≡ answer accepted (packed (tag_started key nonce))
   unfolding making_tag
   makes_tag = made_by 1
 
   -- what is made has their keystream
-  pub made_stream : ahead (making_cipher key nonce).registers ≡ keystream (started key nonce)
+  pub made_stream : ahead (making_cipher key nonce).next ≡ keystream (started key nonce)
   unfolding making_cipher
   made_stream = ap keystream (state_by 0)
 
   -- and what is made for a tag begins where it begins
-  pub made_tag : state (making_tag key nonce).registers ≡ tag_started key nonce
+  pub made_tag : state (making_tag key nonce).next ≡ tag_started key nonce
   unfolding making_tag
   made_tag = state_by 1
+
+-- and only these aren't
+pub made_sized : (bit : ℕ) (key nonce : List ℕ) {r : Registers} → answer accepted r ≡ making_by bit key nonce
+    → (length key ≡ 16) × (length nonce ≡ 12)
+made_sized bit key nonce e =
+    let right =
+    none_wrong (make_faults triad key nonce) tt
+    (sym (answer_number _ _ _ (λ (m : Answer Registers). m.refusal) refl (λ n. refl) e)) in
+    (right.0, right.1.0)
+
+pub refused_unsized : (bit : ℕ) (key nonce : List ℕ) (refusal : Refusal)
+    → answer (number_of refusal) blank ≡ making_by bit key nonce → length key ≡ 16 → length nonce ≢ 12
+refused_unsized bit key nonce refusal e keys values =
+    never_accepted refusal (ap (λ (m : Answer Registers). m.refusal) (e ∙ made_by key nonce keys values bit))
 
 -- ---- both engines
 
@@ -143,24 +159,24 @@ short_whole r message n many =
 -- with room the call isn't refused
 pub enciphers : (r : Registers) (input output : List ℕ) → length input ≤ length output
     → enciphering r input output
-    ≡ outcome (answered accepted (skipping r (length input)))
+    ≡ outcome (answer accepted (skipping r (length input)))
     (placed output 0 (enciphered (ahead r) input))
 unfolding enciphering
-enciphers = any.enciphers answered ahead skipping
+enciphers = any.enciphers answer ahead skipping
 
 -- and what it was asked for stands at the output's front
 pub enciphered_there : (r : Registers) (input output : List ℕ) (n : ℕ) → length input ≡ n → n ≤ length output
     → take n (enciphering r input output).buffer ≡ enciphered (ahead r) input
 unfolding enciphering
-enciphered_there = any.enciphered_there answered ahead skipping
+enciphered_there = any.enciphered_there answer ahead skipping
 
 -- and with 0 it wasn't
 unrefused : (r : Registers) (input output : List ℕ) → (enciphering r input output).answer.refusal ≡ accepted
     → enciphering r input output
-    ≡ outcome (answered accepted (skipping r (length input)))
+    ≡ outcome (answer accepted (skipping r (length input)))
     (placed output 0 (enciphered (ahead r) input))
 unfolding enciphering
-unrefused = any.unrefused answered ahead skipping (λ a. a.refusal) (λ n r. refl)
+unrefused = any.unrefused answer ahead skipping (λ a. a.refusal) (λ n r. refl)
 
 -- the keystream goes on from where a record was moved to
 pub goes_on : (r : Registers) (n : ℕ) → ahead (skipping r n) ≡ from n (ahead r)
@@ -169,12 +185,12 @@ goes_on r n = gone (state r) n (state_skip r n)
 -- A stream taken in two calls, the second at the place where the first stopped, is the stream taken in one.
 pub cut : TakenInTwo (λ a. a.next) enciphering
 unfolding enciphering
-cut = any.in_two answered ahead skipping (λ a. a.next) (λ n r. refl) skip_add goes_on
+cut = any.in_two answer ahead skipping (λ a. a.next) (λ n r. refl) skip_add goes_on
 
 -- To encipher twice from the same registers is to have the bytes back.
 pub twice : GivesBack enciphering
 unfolding enciphering
-twice = any.back answered ahead skipping
+twice = any.back answer ahead skipping
 
 -- ---- taking in
 
@@ -207,32 +223,32 @@ in_pieces_under r cipher xs ys =
 
 -- by pieces that together are the padded associated data and the message
 pub tag_whole : (key nonce associated message : List ℕ) → length key ≡ 16 → length nonce ≡ 12 → {r : Registers}
-    → r ≡ absorbing (making_tag key nonce).registers (padded associated ++ message)
+    → r ≡ absorbing (making_tag key nonce).next (padded associated ++ message)
     → tagging r ≡ triad.tag key nonce associated message
 unfolding tagging
 tag_whole key nonce associated message keys values taken =
     ap (λ (r : Registers). number 256 (tag_of (state r))) taken
     ∙ ap (λ (s : State). number 256 (tag_of s))
-    (state_absorbed (making_tag key nonce).registers (padded associated ++ message)
+    (state_absorbed (making_tag key nonce).next (padded associated ++ message)
     ∙ ap (absorbed (padded associated ++ message)) (made_tag key nonce keys values))
 
 -- the associated data, and then the message
 pub tag_sent : (key nonce associated message : List ℕ) → length key ≡ 16 → length nonce ≡ 12
-    → tagging (absorbing (absorbing (making_tag key nonce).registers (padded associated)) message)
+    → tagging (absorbing (absorbing (making_tag key nonce).next (padded associated)) message)
     ≡ triad.tag key nonce associated message
 tag_sent key nonce associated message keys values =
     tag_whole key nonce associated message keys values
-    (in_pieces (making_tag key nonce).registers (padded associated) message)
+    (in_pieces (making_tag key nonce).next (padded associated) message)
 
 -- the message lent enciphered
 pub tag_received : (key nonce associated sent : List ℕ) → length key ≡ 16 → length nonce ≡ 12
     → tagging
-    (absorbing_under (absorbing (making_tag key nonce).registers (padded associated)) (making_cipher key nonce).registers
+    (absorbing_under (absorbing (making_tag key nonce).next (padded associated)) (making_cipher key nonce).next
     sent)
     ≡ triad.tag key nonce associated (enciphered (triad.stream key nonce) sent)
 tag_received key nonce associated sent keys values =
     ap tagging
-    (under_plain (absorbing (making_tag key nonce).registers (padded associated)) (making_cipher key nonce).registers
+    (under_plain (absorbing (making_tag key nonce).next (padded associated)) (making_cipher key nonce).next
     (keystream (started key nonce)) sent (made_stream key nonce keys values))
     ∙ tag_sent key nonce associated (enciphered (keystream (started key nonce)) sent) keys values
 
@@ -251,17 +267,17 @@ clean_updates : (bits : List ℕ) (r : Registers) → Clean (packed (updates bit
 clean_updates bits r = clean (updates bits (state r)) (held_updates bits (state r) (held_state r))
 
 -- they come back zero from every call that isn't refused but `run`, whatever they were
-clean_by : (bit : ℕ) (key nonce : List ℕ) → Clean (making_by bit key nonce).registers
+clean_by : (bit : ℕ) (key nonce : List ℕ) → Clean (making_by bit key nonce).next
 clean_by bit key nonce =
-    by_settled (make_faults triad key nonce) _ _ (λ (m : Made). Clean m.registers)
+    by_settled (make_faults triad key nonce) _ _ (λ (m : Answer Registers). Clean m.next)
     (λ e. clean _ (held_permuted bit (loaded key nonce)))
     (λ n e h. record { a = omega arith; b = omega arith; c = omega arith })
 
-pub clean_made : (key nonce : List ℕ) → Clean (making_cipher key nonce).registers
+pub clean_made : (key nonce : List ℕ) → Clean (making_cipher key nonce).next
 unfolding making_cipher
 clean_made = clean_by 0
 
-pub clean_made_tag : (key nonce : List ℕ) → Clean (making_tag key nonce).registers
+pub clean_made_tag : (key nonce : List ℕ) → Clean (making_tag key nonce).next
 unfolding making_tag
 clean_made_tag = clean_by 1
 
@@ -358,18 +374,18 @@ module _ (r q : Registers) (same : state r ≡ state q) where
   module _ (input output : List ℕ) where
     pub same_number : (enciphering r input output).answer.refusal ≡ (enciphering q input output).answer.refusal
     unfolding enciphering
-    same_number = any.same_number answered ahead skipping (λ a. a.refusal) (λ n r. refl) r q input output
+    same_number = any.same_number answer ahead skipping (λ a. a.refusal) (λ n r. refl) r q input output
 
     pub same_buffer : (enciphering r input output).buffer ≡ (enciphering q input output).buffer
     unfolding enciphering
     same_buffer =
-        any.same_buffer answered ahead skipping (λ a. a.refusal) (λ n r. refl) r q input output (ap keystream same)
+        any.same_buffer answer ahead skipping (λ a. a.refusal) (λ n r. refl) r q input output (ap keystream same)
 
     pub same_enciphered : (enciphering r input output).answer.refusal ≡ accepted
         → enciphering r input output ≡ enciphering q input output
     unfolding enciphering
     same_enciphered =
-        any.same_enciphered answered ahead skipping (λ a. a.refusal) (λ n r. refl) r q input output (ap keystream same)
+        any.same_enciphered answer ahead skipping (λ a. a.refusal) (λ n r. refl) r q input output (ap keystream same)
         (same_skipped (length input))
 
 -- ---- in any number of pieces
@@ -405,7 +421,7 @@ in_all_pieces_under r cipher (piece ∷ more) = ap state (pieces_absorbed_under 
 
 module _ (key nonce associated : List ℕ) (keys : length key ≡ 16) (values : length nonce ≡ 12) where
   abbrev begun : Registers
-  begun = (making_tag key nonce).registers
+  begun = (making_tag key nonce).next
 
   -- The tag is that of the whole, wherever the padded associated data and the message are cut.
   pub tag_in_pieces : (message : List ℕ) (pieces : List (List ℕ)) → together pieces ≡ padded associated ++ message
@@ -416,10 +432,10 @@ module _ (key nonce associated : List ℕ) (keys : length key ≡ 16) (values : 
 
   -- And if the message is lent enciphered, in pieces of its own.
   pub tag_received_in_pieces : (front sent : List (List ℕ)) → together front ≡ padded associated
-      → tagging (absorbing_all_under (absorbing_all begun front) (making_cipher key nonce).registers sent)
+      → tagging (absorbing_all_under (absorbing_all begun front) (making_cipher key nonce).next sent)
       ≡ triad.tag key nonce associated (enciphered (triad.stream key nonce) (together sent))
   tag_received_in_pieces front sent all =
-      let cipher : Registers = (making_cipher key nonce).registers in
+      let cipher : Registers = (making_cipher key nonce).next in
       let apart : Registers = absorbing_all begun front in
       let whole : Registers = absorbing begun (padded associated) in
       let taken : state apart ≡ state whole =

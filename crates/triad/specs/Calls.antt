@@ -1,29 +1,32 @@
 -- What each public call owes: its answer, and what a lent buffer holds afterwards, for every input.
-use Rattle.std.specs.Prelude.{ℕ, ◌*◌, ◌%◌, min, List, length}
+use Rattle.std.specs.Prelude.{ℕ, ◌*◌, ◌%◌, min, List}
 use Rattle.octets.specs.{Digits.number, LowFirst.bits_up, LowFirst.number_up, Stream.Keystream, Stream.enciphered}
-use Rattle.refusals.specs.{Numbers.accepted, Outcome.Outcome, Outcome.outcome, Rules.settled}
-use Rattle.ciphers.specs.Calls.{make_faults, enciphers_by}
+use Rattle.refusals.specs.{Numbers.accepted, Outcome.Outcome, Rules.settled}
+use Rattle.refusals.specs.Answers.{Answer, answer}
+use Rattle.ciphers.specs.Calls.{make_faults, covers_by, enciphers_by}
 use Rattle.triad.specs.{Keystream.keystream, Record.state, Record.packed, Tag.absorbed, Tag.tag_of, Tag.triad}
 use Rattle.triad.specs.State.{loaded, next, output_bit, outputs, permuted, updates, zeros}
-use Rattle.triad.specs.{declared.Enciphered.Enciphered, declared.Made.Made, declared.Registers.Registers}
-use Rattle.triad.specs.{declared.Stepped.Stepped, declared.Strode.Strode}
+use Rattle.triad.specs.{declared.Registers.Registers, declared.Stepped.Stepped, declared.Strode.Strode}
 
-abbrev pub refused_making : ℕ → Made
-refused_making number =
-    record { refusal = number; registers = record { a1 = 0; a0 = 0; b1 = 0; b0 = 0; c1 = 0; c0 = 0 } }
+-- the record that a refused making answers
+abbrev pub blank : Registers
+blank = record { words = record { a1 = 0; a0 = 0; b1 = 0; b0 = 0; c1 = 0; c0 = 0 } }
+
+abbrev pub refused_making : ℕ → Answer Registers
+refused_making number = answer number blank
 
 -- the registers behind the permutation whose first update takes this bit
-abbrev pub making_by : ℕ → List ℕ → List ℕ → Made
+abbrev pub making_by : ℕ → List ℕ → List ℕ → Answer Registers
 making_by bit key nonce =
     settled (make_faults triad key nonce)
-    (record { refusal = accepted; registers = packed (permuted bit (loaded key nonce)) })
+    (answer accepted (packed (permuted bit (loaded key nonce))))
     refused_making
 
 -- for the keystream, and for the tag
-unfoldable pub making_cipher : List ℕ → List ℕ → Made
+unfoldable pub making_cipher : List ℕ → List ℕ → Answer Registers
 making_cipher = making_by 0
 
-unfoldable pub making_tag : List ℕ → List ℕ → Made
+unfoldable pub making_tag : List ℕ → List ℕ → Answer Registers
 making_tag = making_by 1
 
 -- one update, the plain reading; it takes the lowest bit of the message
@@ -46,12 +49,15 @@ running r message =
       word = strode.word;
       next =
           record {
-            a1 = r.a0;
-            a0 = strode.next.a0;
-            b1 = r.b0;
-            b0 = strode.next.b0;
-            c1 = r.c0;
-            c0 = strode.next.c0;
+            words =
+                record {
+                  a1 = r.words.a0;
+                  a0 = strode.next.words.a0;
+                  b1 = r.words.b0;
+                  b0 = strode.next.words.b0;
+                  c1 = r.words.c0;
+                  c0 = strode.next.words.c0;
+                };
           };
     }
 
@@ -64,20 +70,17 @@ short_striding r message n =
 unfoldable pub skipping : Registers → ℕ → Registers
 skipping r bytes = packed (updates (zeros (8 * bytes)) (state r))
 
--- a record's answer, and the keystream from the place where the record stands
-abbrev pub answered : ℕ → Registers → Enciphered
-answered number r = record { refusal = number; next = r }
-
+-- the keystream from the place where the record stands
 abbrev pub ahead : Registers → Keystream
 ahead r = keystream (state r)
 
 -- the bytes under the keystream, at the front of the output
-unfoldable pub enciphering : Registers → List ℕ → List ℕ → Outcome Enciphered ℕ
-enciphering = enciphers_by answered ahead skipping
+unfoldable pub enciphering : Registers → List ℕ → List ℕ → Outcome (Answer Registers) ℕ
+enciphering = enciphers_by answer ahead skipping
 
 -- the same where the bytes stand
 unfoldable pub covering : Registers → List ℕ → Outcome Registers ℕ
-covering r bytes = outcome (skipping r (length bytes)) (enciphered (ahead r) bytes)
+covering = covers_by ahead skipping
 
 -- a piece of what the tag is over
 unfoldable pub absorbing : Registers → List ℕ → Registers

@@ -7,22 +7,25 @@ use Rattle.triad.specs.declared.Registers.{Registers}
 
 -- spare bits of the record are ignored
 unfoldable pub state : Registers → State
-state r = of_words r.a1 r.a0 r.b1 r.b0 r.c1 r.c0
+state r = of_words r.words
 
 -- the record of a state, with every spare bit zero
 unfoldable pub packed : State → Registers
 packed s =
     record {
-      a1 = turned (s.a / 2 ^ 64);
-      a0 = turned (s.a % 2 ^ 64);
-      b1 = turned (s.b / 2 ^ 64);
-      b0 = turned (s.b % 2 ^ 64);
-      c1 = turned (s.c / 2 ^ 64);
-      c0 = turned (s.c % 2 ^ 64);
+      words =
+          record {
+            a1 = turned (s.a / 2 ^ 64);
+            a0 = turned (s.a % 2 ^ 64);
+            b1 = turned (s.b / 2 ^ 64);
+            b0 = turned (s.b % 2 ^ 64);
+            c1 = turned (s.c / 2 ^ 64);
+            c0 = turned (s.c % 2 ^ 64);
+          };
     }
 
 -- every spare bit is zero: 48 of a's older word, and 40 of those of b and c
 pub record Clean (r : Registers) : Type 0 where
-  pub a : r.a1 % 2 ^ 48 ≡ 0
-  pub b : r.b1 % 2 ^ 40 ≡ 0
-  pub c : r.c1 % 2 ^ 40 ≡ 0
+  pub a : r.words.a1 % 2 ^ 48 ≡ 0
+  pub b : r.words.b1 % 2 ^ 40 ≡ 0
+  pub c : r.words.c1 % 2 ^ 40 ≡ 0

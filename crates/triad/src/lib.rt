@@ -1,29 +1,25 @@
 #![tactic(auto)]
 
-ghost use Rattle.std.specs.Prelude.{[], ◌∷◌, ◌≡◌, ◌<◌, min, length};
+ghost use Rattle.std.specs.Prelude.{reverse, ◌/◌, ◌%◌, ◌^◌, ◌≡◌, ◌<◌, ◌≤◌, length};
+ghost use Rattle.octets.specs.Buffers.{slice};
 ghost use Rattle.octets.specs.Digits.{number};
-ghost use Rattle.triad.specs.Calls.{refused_making, making_by, making_cipher, making_tag, stepping, striding};
-ghost use Rattle.triad.specs.Calls.{running, short_striding, tagging};
+ghost use Rattle.octets.specs.Stream.{enciphered};
+ghost use Rattle.refusals.specs.Answers.{answer_or};
+ghost use Rattle.triad.specs.Calls.{blank, making_by, making_cipher, making_tag, stepping, striding};
+ghost use Rattle.triad.specs.Calls.{running, short_striding, tagging, ahead, skipping};
 ghost use Rattle.triad.specs.Record.{state, packed};
 ghost use Rattle.triad.specs.State.{loaded, permuted};
 
+use ciphers::StreamCipher;
+use refusals::Refusal;
+pub use shift_registers::SixWords;
+use shift_registers::shifted;
+
 // The 256 bits: a register's 64 newest bits stand in its word 0 and its older ones in its word 1, the newest of each
 // word as the most significant bit, so that the older word's lowest bits are spare.
-#[derive(Clone, Copy)]
+#[derive(Clone, Copy, PartialEq, Eq)]
 pub struct Registers {
-    pub a1: u64,
-    pub a0: u64,
-    pub b1: u64,
-    pub b0: u64,
-    pub c1: u64,
-    pub c0: u64,
-}
-
-// The answers. A refusal of 0 says that the call was not refused.
-#[derive(Clone, Copy)]
-pub struct Made {
-    pub refusal: u8,
-    pub registers: Registers,
+    pub words: SixWords,
 }
 
 #[derive(Clone, Copy)]
@@ -38,12 +34,6 @@ pub struct Strode {
     pub next: Registers,
 }
 
-#[derive(Clone, Copy)]
-pub struct Enciphered {
-    pub refusal: u8,
-    pub next: Registers,
-}
-
 pub const KEY_BYTES: usize = 16;
 
 pub const VALUE_BYTES: usize = 12;
@@ -51,57 +41,41 @@ pub const VALUE_BYTES: usize = 12;
 // The updates of a permutation behind its first 64, as strides.
 const MORE_STRIDES: usize = 15;
 
-// The number that eight bytes make, the most significant first.
-fn word_of(a: u8, b: u8, c: u8, d: u8, e: u8, f: u8, g: u8, h: u8) -> u64
-    ensures { result ≡ number 256 (a ∷ b ∷ c ∷ d ∷ e ∷ f ∷ g ∷ h ∷ []) }
-{
-    let upper = (a as u64) * 16777216 + (b as u64) * 65536 + (c as u64) * 256 + (d as u64);
-    let lower = (e as u64) * 16777216 + (f as u64) * 65536 + (g as u64) * 256 + (h as u64);
-    upper * 4294967296 + lower
-}
-
 // The registers before any permutation. A register's first byte is its newest, with its most significant bit as the
 // newest, so a word is the number that its bytes make as they are printed.
 fn load(key: &[u8], nonce: &[u8]) -> Registers
     requires { (length key.now ≡ 16) × (length nonce.now ≡ 12) }
     ensures { state result ≡ loaded key.now nonce.now }
 {
-    let a1 = word_of(0xfe, key[0], 0, 0, 0, 0, 0, 0);
-    let a0 = word_of(nonce[0], key[4], 0xff, key[3], 0xff, key[2], 0xff, key[1]);
-    let b1 = word_of(nonce[3], nonce[2], nonce[1], 0, 0, 0, 0, 0);
-    let b0 = samples::eight_from(nonce, 4);
-    let c1 = word_of(key[7], key[6], key[5], 0, 0, 0, 0, 0);
-    let c0 = samples::eight_from(key, 8);
-    Registers {
-        a1,
-        a0,
-        b1,
-        b0,
-        c1,
-        c0,
-    }
+    let words = SixWords {
+        a1: u64::from_be_bytes([0xfe, key[0], 0, 0, 0, 0, 0, 0]),
+        a0: u64::from_be_bytes([nonce[0], key[4], 0xff, key[3], 0xff, key[2], 0xff, key[1]]),
+        b1: u64::from_be_bytes([nonce[3], nonce[2], nonce[1], 0, 0, 0, 0, 0]),
+        b0: samples::eight_from(nonce, 4),
+        c1: u64::from_be_bytes([key[7], key[6], key[5], 0, 0, 0, 0, 0]),
+        c0: samples::eight_from(key, 8),
+    };
+    Registers { words }
 }
 
-fn at_most_64(n: usize) -> usize
-    ensures { result ≡ min n 64 }
+// The number that a run's first eight bytes make, or as many as are there, the least significant first.
+pub fn word_in(bytes: &[u8]) -> u64
+    ensures { result ≡ number 256 (reverse (slice bytes.now 0 8)) }
 {
-    if n < 64 { n } else { 64 }
+    let n = bytes.len().min(8);
+    let mut word = [0; 8];
+    word[..n].copy_from_slice(&bytes[..n]);
+    u64::from_le_bytes(word)
 }
 
-fn refused_making(number: u8) -> Made
-    ensures { result ≡ refused_making number }
+// Up to eight bytes under a word of keystream, where they stand.
+fn cover_word(bytes: &mut [u8], stream: u64)
+    requires { length bytes.old ≤ 8 }
+    ensures { bytes.new ≡ enciphered (λ i. stream / 256 ^ i % 256) bytes.old }
 {
-    Made {
-        refusal: number,
-        registers: Registers {
-            a1: 0,
-            a0: 0,
-            b1: 0,
-            b0: 0,
-            c1: 0,
-            c0: 0,
-        },
-    }
+    let n = bytes.len();
+    let covered = (word_in(bytes) ^ stream).to_le_bytes();
+    bytes.copy_from_slice(&covered[..n]);
 }
 
 impl Registers {
@@ -111,19 +85,19 @@ impl Registers {
     pub fn run(self, message: u64) -> Strode
         ensures { result ≡ running self message }
     {
-        let new = triad_taps::stride(
-            self.a1, self.a0, self.b1, self.b0, self.c1, self.c0, message,
-        );
+        let old = self.words;
+        let new = triad_taps::stride(old, message);
+        let words = SixWords {
+            a1: old.a0,
+            a0: new.a,
+            b1: old.b0,
+            b0: new.b,
+            c1: old.c0,
+            c0: new.c,
+        };
         Strode {
             word: new.z,
-            next: Registers {
-                a1: self.a0,
-                a0: new.a,
-                b1: self.b0,
-                b0: new.b,
-                c1: self.c0,
-                c0: new.c,
-            },
+            next: Registers { words },
         }
     }
 
@@ -131,17 +105,14 @@ impl Registers {
     pub fn cleared(self) -> Registers
         ensures { result ≡ packed (state self) }
     {
-        let a1 = self.a1;
-        let b1 = self.b1;
-        let c1 = self.c1;
-        Registers {
-            a1: (a1 >> 48) << 48,
-            a0: self.a0,
-            b1: (b1 >> 40) << 40,
-            b0: self.b0,
-            c1: (c1 >> 40) << 40,
-            c0: self.c0,
-        }
+        let old = self.words;
+        let words = SixWords {
+            a1: (old.a1 >> 48) << 48,
+            b1: (old.b1 >> 40) << 40,
+            c1: (old.c1 >> 40) << 40,
+            ..old
+        };
+        Registers { words }
     }
 
     // 1,024 updates, of which the first takes a bit.
@@ -149,46 +120,37 @@ impl Registers {
         requires { first < 2 }
         ensures { state result ≡ permuted first (state self) }
     {
-        let begun = self.run(first);
-        let mut registers = begun.next;
-        let mut left = MORE_STRIDES;
-        while 0 < left {
-            let ran = registers.run(0);
-            registers = ran.next;
-            left -= 1;
+        let mut registers = self.run(first).next;
+        for _ in 0..MORE_STRIDES {
+            registers = registers.run(0).next;
         }
         registers
     }
 
     // Registers from a key of 16 bytes and a nonce of twelve, behind the permutation whose first update takes a bit.
-    fn made(key: &[u8], nonce: &[u8], first: u64) -> Made
+    fn made(key: &[u8], nonce: &[u8], first: u64) -> Result<Registers, Refusal>
         requires { first < 2 }
-        ensures { result ≡ making_by first key.now nonce.now }
+        ensures { answer_or blank result ≡ making_by first key.now nonce.now }
     {
         if key.len() != KEY_BYTES {
-            return refused_making(refusals::BAD_KEY);
+            return Err(Refusal::BadKey);
         }
         if nonce.len() != VALUE_BYTES {
-            return refused_making(refusals::BAD_VALUE);
+            return Err(Refusal::BadValue);
         }
-        let loaded = load(key, nonce);
-        let registers = loaded.permuted(first);
-        Made {
-            refusal: refusals::ACCEPTED,
-            registers: registers.cleared(),
-        }
+        Ok(load(key, nonce).permuted(first).cleared())
     }
 
     // Registers for a keystream.
-    pub fn new(key: &[u8], nonce: &[u8]) -> Made
-        ensures { result ≡ making_cipher key.now nonce.now }
+    pub fn new(key: &[u8], nonce: &[u8]) -> Result<Registers, Refusal>
+        ensures { answer_or blank result ≡ making_cipher key.now nonce.now }
     {
         Registers::made(key, nonce, 0)
     }
 
     // Registers for a tag.
-    pub fn new_tag(key: &[u8], nonce: &[u8]) -> Made
-        ensures { result ≡ making_tag key.now nonce.now }
+    pub fn new_tag(key: &[u8], nonce: &[u8]) -> Result<Registers, Refusal>
+        ensures { answer_or blank result ≡ making_tag key.now nonce.now }
     {
         Registers::made(key, nonce, 1)
     }
@@ -197,20 +159,19 @@ impl Registers {
     pub fn step(self, message: u64) -> Stepped
         ensures { result ≡ stepping self message }
     {
-        let new = triad_taps::step(
-            self.a1, self.a0, self.b1, self.b0, self.c1, self.c0, message,
-        );
-        let next = Registers {
-            a1: shift_registers::shifted(self.a0, self.a1, 63),
+        let old = self.words;
+        let new = triad_taps::step(old, message);
+        let words = SixWords {
+            a1: shifted(old.a0, old.a1, 63),
             a0: new.a,
-            b1: shift_registers::shifted(self.b0, self.b1, 63),
+            b1: shifted(old.b0, old.b1, 63),
             b0: new.b,
-            c1: shift_registers::shifted(self.c0, self.c1, 63),
+            c1: shifted(old.c0, old.c1, 63),
             c0: new.c,
         };
         Stepped {
             bit: new.z as u8,
-            next: next.cleared(),
+            next: Registers { words }.cleared(),
         }
     }
 
@@ -219,10 +180,9 @@ impl Registers {
         ensures { result ≡ striding self message }
     {
         let ran = self.run(message);
-        let next = ran.next;
         Strode {
             word: ran.word,
-            next: next.cleared(),
+            next: ran.next.cleared(),
         }
     }
 
@@ -230,22 +190,20 @@ impl Registers {
     pub fn short_stride(self, message: u64, n: usize) -> Strode
         ensures { result ≡ short_striding self message n }
     {
-        let a0 = self.a0;
-        let b0 = self.b0;
-        let c0 = self.c0;
-        let new = triad_taps::stride(self.a1, a0, self.b1, b0, self.c1, c0, message);
-        let left = 64 - at_most_64(n);
-        let next = Registers {
-            a1: shift_registers::shifted(a0, self.a1, left),
-            a0: shift_registers::shifted(new.a, a0, left),
-            b1: shift_registers::shifted(b0, self.b1, left),
-            b0: shift_registers::shifted(new.b, b0, left),
-            c1: shift_registers::shifted(c0, self.c1, left),
-            c0: shift_registers::shifted(new.c, c0, left),
+        let old = self.words;
+        let new = triad_taps::stride(old, message);
+        let left = 64 - n.min(64);
+        let words = SixWords {
+            a1: shifted(old.a0, old.a1, left),
+            a0: shifted(new.a, old.a0, left),
+            b1: shifted(old.b0, old.b1, left),
+            b0: shifted(new.b, old.b0, left),
+            c1: shifted(old.c0, old.c1, left),
+            c0: shifted(new.c, old.c0, left),
         };
         Strode {
             word: new.z,
-            next: next.cleared(),
+            next: Registers { words }.cleared(),
         }
     }
 
@@ -253,9 +211,29 @@ impl Registers {
     pub fn tag(self) -> u64
         ensures { result ≡ tagging self }
     {
-        let closed = self.permuted(1);
-        let last = closed.run(0);
-        let number = samples::swapped(last.word);
-        number
+        let last = self.permuted(1).run(0);
+        samples::swapped(last.word)
+    }
+}
+
+impl StreamCipher for Registers {
+    ghost ahead = { ahead };
+
+    ghost moved = { skipping };
+
+    // In the loop the registers move word by word and clear nothing, and a part of a stride behind it takes what is left
+    // and clears what they leave.
+    fn cover(self, bytes: &mut [u8]) -> Registers {
+        let words = bytes.len() / 8;
+        let mut moved = self;
+        for i in 0..words {
+            let ran = moved.run(0);
+            cover_word(&mut bytes[8 * i..8 * i + 8], ran.word);
+            moved = ran.next;
+        }
+        let rest = &mut bytes[8 * words..];
+        let ran = moved.short_stride(0, 8 * rest.len());
+        cover_word(rest, ran.word);
+        ran.next
     }
 }

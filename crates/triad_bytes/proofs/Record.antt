@@ -6,7 +6,7 @@ use lib.ListN.{length}
 use Rattle.octets.specs.{Buffers.put, Rows.Fits}
 use Rattle.octets.proofs.Numbers.{Below}
 use Rattle.record_bytes.specs.SixWords.{six_widths, six_numbers, six_bytes, six_in}
-use Rattle.record_bytes.specs.declared.SixWords.{SixWords}
+use Rattle.shift_registers.specs.declared.SixWords.{SixWords}
 use Rattle.record_bytes.proofs.Sixes.{length_six, six_back, six_again}
 use Rattle.triad.specs.declared.Registers.{Registers}
 use Rattle.triad_bytes.specs.Record.{triad_size, six_of, triad_bytes, registers_of, triad_in}

@@ -9,7 +9,7 @@ use Rattle.octets.specs.{Digits.number, Digits.digits, LowFirst.bits_up, LowFirs
 use Rattle.octets.proofs.Numbers.{Below}
 use Rattle.octets.proofs.LowFirst.{turned_below, turned_twice, bits_turned, up_turned, length_up, up_append}
 use Rattle.shift_registers.specs.{Registers.State, Registers.moved, Words.joined, Words.shifted, Words.newest_by}
-use Rattle.shift_registers.specs.declared.Newest.{Newest}
+use Rattle.shift_registers.specs.declared.{Newest.Newest, SixWords.SixWords}
 use Rattle.shift_registers.proofs.Steps as steps
 use Rattle.shift_registers.proofs.Strides as by
 use Rattle.shift_registers.proofs.{Words.Reads, Strides.Striding}
@@ -48,8 +48,8 @@ striding =
 abbrev pub Held : State → Type 0
 Held = steps.Held 80 88 88
 
-pub held_words : (a1 a0 b1 b0 c1 c0 : ℕ) → Held (of_words a1 a0 b1 b0 c1 c0)
-held_words a1 a0 b1 b0 c1 c0 = steps.held_cut 80 88 88 _ _ _
+pub held_words : (w : SixWords) → Held (of_words w)
+held_words w = steps.held_cut 80 88 88 _ _ _
 
 cuts : (bit : ℕ) (s : State) → Held (next bit s)
 unfolding next
@@ -112,9 +112,24 @@ put_out_part message s e n few =
     ∙ ap₂ (λ (l : List ℕ) (m : ℕ). number_up l % 2 ^ m) (outputs_append first rest s) long
     ∙ up_low some (outputs rest (updates first s)) (outputs_below first s)
 
-module _ (a1 a0 b1 b0 c1 c0 message : ℕ) where
+-- the six words after all of them, and after all but the last n
+abbrev pub pushed : SixWords → Newest → SixWords
+pushed w t = record { a1 = w.a0; a0 = t.a; b1 = w.b0; b0 = t.b; c1 = w.c0; c0 = t.c }
+
+abbrev pub partly : ℕ → SixWords → Newest → SixWords
+partly n w t =
+    record {
+      a1 = shifted w.a0 w.a1 n;
+      a0 = shifted t.a w.a0 n;
+      b1 = shifted w.b0 w.b1 n;
+      b0 = shifted t.b w.b0 n;
+      c1 = shifted w.c0 w.c1 n;
+      c0 = shifted t.c w.c0 n;
+    }
+
+module _ (w : SixWords) (message : ℕ) where
   abbrev six : State
-  six = of_words a1 a0 b1 b0 c1 c0
+  six = of_words w
 
   abbrev words : Newest
   words = by.words striding (turned message) six
@@ -123,39 +138,36 @@ module _ (a1 a0 b1 b0 c1 c0 message : ℕ) where
   pub words_newest : around words ≡ newest (bits_up 64 message) six
   words_newest =
       ap around
-      (by.words_newest striding (turned message) (turned_below message) (turned a1) (turned a0) (turned b1) (turned b0)
-      (turned c1) (turned c0))
+      (by.words_newest striding (turned message) (turned_below message) (turned w.a1) (turned w.a0) (turned w.b1)
+      (turned w.b0) (turned w.c1) (turned w.c0))
       ∙ around_newest message six
 
   -- the registers after them, by their newest words alone
   pub strode : {t : Newest} → t ≡ newest (bits_up 64 message) six
-      → of_words a0 t.a b0 t.b c0 t.c ≡ updates (bits_up 64 message) six
+      → of_words (pushed w t) ≡ updates (bits_up 64 message) six
   unfolding newest
   strode e =
       let there : State = updates (bits_up 64 message) six in
       let back : (x : ℕ) → turned (turned (x % 2 ^ 64)) ≡ x % 2 ^ 64 = λ x. turned_twice _ (mod-lt x (pow_pos 64)) in
-      (λ i. of_words a0 (e i).a b0 (e i).b c0 (e i).c)
+      (λ i. of_words (pushed w (e i)))
       ∙ (λ i.
       record {
-        a = joined 80 (turned a0) (back there.a i);
-        b = joined 88 (turned b0) (back there.b i);
-        c = joined 88 (turned c0) (back there.c i);
+        a = joined 80 (turned w.a0) (back there.a i);
+        b = joined 88 (turned w.b0) (back there.b i);
+        c = joined 88 (turned w.c0) (back there.c i);
       })
       ∙ subst
       (λ (l : List ℕ).
       let t = updates l six in
-      by.of_six striding (turned a0) (t.a % 2 ^ 64) (turned b0) (t.b % 2 ^ 64) (turned c0) (t.c % 2 ^ 64) ≡ t)
+      by.of_six striding (turned w.a0) (t.a % 2 ^ 64) (turned w.b0) (t.b % 2 ^ 64) (turned w.c0) (t.c % 2 ^ 64) ≡ t)
       (sym (bits_turned message))
-      (by.strode striding (turned message) (turned_below message) (turned a1) (turned a0) (turned b1) (turned b0)
-      (turned c1) (turned c0))
+      (by.strode striding (turned message) (turned_below message) (turned w.a1) (turned w.a0) (turned w.b1)
+      (turned w.b0) (turned w.c1) (turned w.c0))
 
   -- and after n of them, by all words moved on
-  pub part_strode : {t : Newest} → t ≡ newest (bits_up 64 message) six → a1 < 2 ^ 64 → a0 < 2 ^ 64 → b1 < 2 ^ 64
-      → b0 < 2 ^ 64 → c1 < 2 ^ 64 → c0 < 2 ^ 64 → (n : ℕ) → n ≤ 64
-      → let k = 64 - n in
-      of_words (shifted a0 a1 k) (shifted t.a a0 k) (shifted b0 b1 k) (shifted t.b b0 k) (shifted c0 c1 k)
-      (shifted t.c c0 k)
-      ≡ updates (bits_up n message) six
+  pub part_strode : {t : Newest} → t ≡ newest (bits_up 64 message) six → w.a1 < 2 ^ 64 → w.a0 < 2 ^ 64
+      → w.b1 < 2 ^ 64 → w.b0 < 2 ^ 64 → w.c1 < 2 ^ 64 → w.c0 < 2 ^ 64 → (n : ℕ) → n ≤ 64
+      → of_words (partly (64 - n) w t) ≡ updates (bits_up n message) six
   part_strode {t} e ha1 ha0 hb1 hb0 hc1 hc0 n few =
       let k : ℕ = 64 - n in
       let same : t ≡ around words = e ∙ sym words_newest in
@@ -163,19 +175,17 @@ module _ (a1 a0 b1 b0 c1 c0 message : ℕ) where
       let older : (x1 x0 : ℕ) → x1 < 2 ^ 64 → x0 < 2 ^ 64
       → turned (shifted x0 x1 k) ≡ shifted (turned x1) (turned x0) n =
       λ x1 x0 h1 h0. turned_shifted x0 x1 n few h0 h1 in
-      let newer : (x0 w : ℕ) → x0 < 2 ^ 64 → w < 2 ^ 64 → turned (shifted (turned w) x0 k) ≡ shifted (turned x0) w n =
-      λ x0 w h0 hw.
-      turned_shifted (turned w) x0 n few (turned_below w) h0
-      ∙ ap (λ (v : ℕ). shifted (turned x0) v n) (turned_twice w hw) in
-      (λ i.
-      of_words (shifted a0 a1 k) (shifted (same i).a a0 k) (shifted b0 b1 k) (shifted (same i).b b0 k)
-      (shifted c0 c1 k) (shifted (same i).c c0 k))
+      let newer : (x0 x : ℕ) → x0 < 2 ^ 64 → x < 2 ^ 64 → turned (shifted (turned x) x0 k) ≡ shifted (turned x0) x n =
+      λ x0 x h0 hx.
+      turned_shifted (turned x) x0 n few (turned_below x) h0
+      ∙ ap (λ (v : ℕ). shifted (turned x0) v n) (turned_twice x hx) in
+      (λ i. of_words (partly k w (same i)))
       ∙ (λ i.
       record {
-        a = joined 80 (older a1 a0 ha1 ha0 i) (newer a0 words.a ha0 small.1 i);
-        b = joined 88 (older b1 b0 hb1 hb0 i) (newer b0 words.b hb0 small.2 i);
-        c = joined 88 (older c1 c0 hc1 hc0 i) (newer c0 words.c hc0 small.3 i);
+        a = joined 80 (older w.a1 w.a0 ha1 ha0 i) (newer w.a0 words.a ha0 small.1 i);
+        b = joined 88 (older w.b1 w.b0 hb1 hb0 i) (newer w.b0 words.b hb0 small.2 i);
+        c = joined 88 (older w.c1 w.c0 hc1 hc0 i) (newer w.c0 words.c hc0 small.3 i);
       })
-      ∙ by.part_strode striding (turned message) (turned_below message) (turned a1) (turned a0) (turned b1) (turned b0)
-      (turned c1) (turned c0) n few
+      ∙ by.part_strode striding (turned message) (turned_below message) (turned w.a1) (turned w.a0) (turned w.b1)
+      (turned w.b0) (turned w.c1) (turned w.c0) n few
       ∙ ap (λ (l : List ℕ). updates l six) (sym (up_part n message few))

@@ -1,17 +1,17 @@
 -- TRIAD's registers in words of 64 bits. Each word stands turned, its newest bit as the most significant: so what comes
 -- out first is the least significant bit, as the cipher counts the bits of a byte.
-use Rattle.std.specs.Prelude.{ℕ, ◌*◌, ◌%◌, ◌^◌, List}
+use Rattle.std.specs.Prelude.{ℕ, ◌%◌, ◌^◌, List}
 use Rattle.octets.specs.LowFirst.{number_up, turned}
-use Rattle.shift_registers.specs.{Registers.State, Words.joined, declared.Newest.Newest}
+use Rattle.shift_registers.specs.{Registers.State, Words.joined, declared.Newest.Newest, declared.SixWords.SixWords}
 use Rattle.triad_taps.specs.Update.{updates, outputs}
 
 -- the registers in six words, the older of each first; a register's spare bits are the lowest of its older word
-abbrev pub of_words : ℕ → ℕ → ℕ → ℕ → ℕ → ℕ → State
-of_words a1 a0 b1 b0 c1 c0 =
+abbrev pub of_words : SixWords → State
+of_words w =
     record {
-      a = joined 80 (turned a1) (turned a0);
-      b = joined 88 (turned b1) (turned b0);
-      c = joined 88 (turned c1) (turned c0);
+      a = joined 80 (turned w.a1) (turned w.a0);
+      b = joined 88 (turned w.b1) (turned w.b0);
+      c = joined 88 (turned w.c1) (turned w.c0);
     }
 
 -- what updates put out, the first bit as the least significant, and the 64 newest bits that each register then has

@@ -1,18 +1,25 @@
 #![tactic(auto)]
 
-// TRIAD's update function on words that stand turned: the newest bit of a word is its most significant. `a1` is the
-// older word of a register and `a0` the newer.
+// TRIAD's update function on words that stand turned: the newest bit of a word is its most significant.
 ghost use Rattle.std.specs.Prelude.{[], ◌∷◌, ◌≡◌, ◌%◌};
 ghost use Rattle.octets.specs.LowFirst.{bits_up};
 ghost use Rattle.triad_taps.specs.Words.{of_words, newest};
 
-use shift_registers::Newest;
+use shift_registers::{Newest, SixWords};
 
 // One update, which takes the lowest bit of the message. Bit 64 of a register is the lowest of its newer word, and the
 // taps behind it are in its older word.
-pub fn step(a1: u64, a0: u64, b1: u64, b0: u64, c1: u64, c0: u64, message: u64) -> Newest
-    ensures { result ≡ newest (message % 2 ∷ []) (of_words a1 a0 b1 b0 c1 c0) }
+pub fn step(words: SixWords, message: u64) -> Newest
+    ensures { result ≡ newest (message % 2 ∷ []) (of_words words) }
 {
+    let SixWords {
+        a1,
+        a0,
+        b1,
+        b0,
+        c1,
+        c0,
+    } = words;
     let t1 = (a1 >> 60) ^ (a1 >> 48) ^ ((b1 >> 43) & (c1 >> 43));
     let t2 = b0 ^ (b1 >> 40);
     let t3 = (c1 >> 60) ^ (c1 >> 40);
@@ -29,9 +36,17 @@ pub fn step(a1: u64, a0: u64, b1: u64, b0: u64, c1: u64, c0: u64, message: u64) 
 
 // 64 updates at once, which take the bits of the message from the lowest on: none of their taps reaches a bit that
 // comes in on the way.
-pub fn stride(a1: u64, a0: u64, b1: u64, b0: u64, c1: u64, c0: u64, message: u64) -> Newest
-    ensures { result ≡ newest (bits_up 64 message) (of_words a1 a0 b1 b0 c1 c0) }
+pub fn stride(words: SixWords, message: u64) -> Newest
+    ensures { result ≡ newest (bits_up 64 message) (of_words words) }
 {
+    let SixWords {
+        a1,
+        a0,
+        b1,
+        b0,
+        c1,
+        c0,
+    } = words;
     let t1 = ((a0 << 4) | (a1 >> 60))
         ^ ((a0 << 16) | (a1 >> 48))
         ^ (((b0 << 21) | (b1 >> 43)) & ((c0 << 21) | (c1 >> 43)));

@@ -1,3 +1,3 @@
 -- The keystream as bytes, from `octets` and `taps`.
 pub use Rattle.octets.proofs.Streams.{length_run}
-pub use Rattle.taps.proofs.Bytes.{keystream_from, gone, keystream_bytes, run_read, run_written, two_calls, two_covers}
+pub use Rattle.taps.proofs.Bytes.{keystream_from, gone, keystream_bytes, run_read, two_covers}

@@ -1,5 +1,5 @@
 -- Steps of the record: what is packed stands for the state that it was packed from, so laws of states are its laws.
-use mathlib.Core.{Path.◌≡◌, Path.sym, Path.ap, Path.subst, Path.◌∙◌, List.List}
+use mathlib.Core.{Path.◌≡◌, Path.refl, Path.sym, Path.ap, Path.subst, Path.◌∙◌, List.List}
 use Prim.Native.Nat.{ℕ, ◌+◌, ◌*◌, ◌^◌, ◌<◌, ◌≤◌, min}
 use native.Mathlib.Omega.{arith}
 use Rattle.octets.specs.Digits.{number}
@@ -13,7 +13,7 @@ pub use Rattle.taps.proofs.Steps.{Held, held_steps, steps_none, steps_add, steps
 
 pub held_state : (r : Registers) → Held (state r)
 unfolding state
-held_state r = held_words r.a1 r.a0 r.b1 r.b0 r.c1 r.c0
+held_state r = held_words r.words
 
 -- what was packed is there again
 pub state_packed : (s : State) → Held s → state (packed s) ≡ s
@@ -31,15 +31,15 @@ state_steps n r = state_packed (steps n (state r)) (held_steps n (state r) (held
 pub state_started : (key iv : List ℕ) → state (packed (started key iv)) ≡ started key iv
 state_started key iv = state_packed (started key iv) (held_moved 1151 (loaded key iv))
 
--- steps are counted by whoever takes them; what is owed says how many they are
-pub so_many : (s : State) (n : ℕ) {m : ℕ} {t : State} → t ≡ steps m s → m ≡ n → t ≡ steps n s
-so_many s n e same = e ∙ ap (λ (k : ℕ). steps k s) same
-
 -- ---- whole bytes passed over
 
 pub state_skip : (r : Registers) (n : ℕ) → state (skipping r n) ≡ steps (8 * n) (state r)
 unfolding skipping
 state_skip r n = state_steps (8 * n) r
+
+pub skip_packed : (r : Registers) (n : ℕ) → packed (steps (8 * n) (state r)) ≡ skipping r n
+unfolding skipping
+skip_packed r n = refl
 
 -- from registers that have gone on by n bytes
 pub skip_from : (r now : Registers) (n m : ℕ) → state now ≡ steps (8 * n) (state r)
@@ -47,24 +47,18 @@ pub skip_from : (r now : Registers) (n m : ℕ) → state now ≡ steps (8 * n) 
 unfolding skipping
 skip_from r now n m e = ap packed (ap (steps (8 * m)) e ∙ sym (steps_bytes n m (state r)))
 
-pub skips_on : (r now : Registers) (n rest : ℕ) {m : ℕ} {last : Registers} → state now ≡ steps (8 * n) (state r)
-    → last ≡ skipping now m → m ≡ rest → last ≡ skipping r (n + rest)
-skips_on r now n rest e last same = last ∙ ap (skipping now) same ∙ skip_from r now n rest e
-
 pub skip_add : (r : Registers) (n m : ℕ) → skipping (skipping r n) m ≡ skipping r (n + m)
 skip_add r n m = skip_from r (skipping r n) n m (state_skip r n)
 
--- a part of a stride, by bytes; how many bits it was asked for is given apart
-pub few_strode : (r : Registers) (n : ℕ) {m : ℕ} → m ≡ 8 * n → n ≤ 8 → short_striding r m ≡ strides (8 * n) r
-unfolding short_striding
-few_strode r n {m} e few =
-    let all : min m 64 ≡ 8 * n = omega arith in
+-- a part of a stride, by bytes
+pub few_strode : (r : Registers) (n : ℕ) → n ≤ 8 → short_striding r (8 * n) ≡ strides (8 * n) r
+few_strode r n few =
+    let all : min (8 * n) 64 ≡ 8 * n = omega arith in
     ap (λ (k : ℕ). strides k r) all
 
 -- ---- a run of strides, for callers, who need not unfold its definitions
 
 pub run_begun : (r : Registers) (w : Running) → w ≡ running_from r → state w.registers ≡ state r
-unfolding running_from
 run_begun r w e = ap (λ (x : Running). state x.registers) e
 
 pub run_stopped : (w : Running) (r : Registers) → r ≡ stopping w → state r ≡ state w.registers
@@ -82,5 +76,4 @@ ran_below w r e = subst (λ (n : ℕ). n < 2 ^ 64) (sym (ran_word w r e)) (bits_
 pub ran_state : (w : Running) (r : Ran) → r ≡ running w → state r.next.registers ≡ steps 64 (state w.registers)
 unfolding running state
 ran_state w r e =
-    let q : Registers = w.registers in
-    ap (λ (x : Ran). state x.next.registers) e ∙ strode q.a1 q.a0 q.b1 q.b0 q.c1 q.c0
+    ap (λ (x : Ran). state x.next.registers) e ∙ strode w.registers.words

@@ -1,29 +1,29 @@
 -- What each public call owes: its answer, and what a lent buffer holds afterwards, for every input.
-use Rattle.std.specs.Prelude.{ℕ, ◌*◌, ◌%◌, ◌^◌, min, List, length}
-use Rattle.octets.specs.{Digits.number, Stream.Keystream, Stream.enciphered}
-use Rattle.refusals.specs.{Numbers.accepted, Outcome.Outcome, Outcome.outcome, Rules.settled}
-use Rattle.ciphers.specs.Calls.{make_faults, enciphers_by}
+use Rattle.std.specs.Prelude.{ℕ, ◌*◌, ◌%◌, ◌^◌, min, List}
+use Rattle.octets.specs.{Digits.number, Stream.Keystream}
+use Rattle.refusals.specs.{Numbers.accepted, Answers.Answer, Answers.answer, Outcome.Outcome, Rules.settled}
+use Rattle.ciphers.specs.Calls.{make_faults, covers_by, enciphers_by}
 use Rattle.taps.specs.Keystream.{bits, keystream, trivium}
 use Rattle.taps.specs.Registers.{State, output_bit, next, steps, started}
-use Rattle.trivium.specs.{Record.state, Record.packed, declared.Enciphered.Enciphered, declared.Made.Made}
+use Rattle.trivium.specs.{Record.state, Record.packed}
 use Rattle.trivium.specs.{declared.Ran.Ran, declared.Registers.Registers, declared.Running.Running}
 use Rattle.trivium.specs.{declared.Stepped.Stepped, declared.Strode.Strode}
 
-abbrev pub refused_making : ℕ → Made
-refused_making number =
-    record { refusal = number; registers = record { a1 = 0; a0 = 0; b1 = 0; b0 = 0; c1 = 0; c0 = 0 } }
+-- the record that a refused making leaves
+abbrev pub blank : Registers
+blank = record { words = record { a1 = 0; a0 = 0; b1 = 0; b0 = 0; c1 = 0; c0 = 0 } }
 
-unfoldable pub making_cipher : List ℕ → List ℕ → Made
+abbrev pub refused_making : ℕ → Answer Registers
+refused_making number = answer number blank
+
+unfoldable pub making_cipher : List ℕ → List ℕ → Answer Registers
 making_cipher key iv =
-    settled (make_faults trivium key iv) (record { refusal = accepted; registers = packed (started key iv) })
-    refused_making
+    settled (make_faults trivium key iv) (answer accepted (packed (started key iv))) refused_making
 
 -- the same, moved on by n strides
-unfoldable pub making_at : List ℕ → List ℕ → ℕ → Made
+unfoldable pub making_at : List ℕ → List ℕ → ℕ → Answer Registers
 making_at key iv n =
-    settled (make_faults trivium key iv)
-    (record { refusal = accepted; registers = packed (steps (64 * n) (started key iv)) })
-    refused_making
+    settled (make_faults trivium key iv) (answer accepted (packed (steps (64 * n) (started key iv)))) refused_making
 
 -- one bit, the plain reading
 unfoldable pub stepping : Registers → Stepped
@@ -33,15 +33,15 @@ stepping r = record { bit = output_bit (state r); next = packed (next (state r))
 abbrev pub strides : ℕ → Registers → Strode
 strides n r = record { word = number 2 (bits n (state r)); next = packed (steps n (state r)) }
 
-unfoldable pub striding : Registers → Strode
+abbrev pub striding : Registers → Strode
 striding r = strides 64 r
 
 -- a part of one
-unfoldable pub short_striding : Registers → ℕ → Strode
+abbrev pub short_striding : Registers → ℕ → Strode
 short_striding r n = strides (min n 64) r
 
 -- a run of strides begins with every word of a record
-unfoldable pub running_from : Registers → Running
+abbrev pub running_from : Registers → Running
 running_from r = record { registers = r }
 
 -- 64 bits in a run: a register's upper word is, whole, what was its newest word
@@ -55,12 +55,15 @@ running w =
           record {
             registers =
                 record {
-                  a1 = r.a0;
-                  a0 = later.a % 2 ^ 64;
-                  b1 = r.b0;
-                  b0 = later.b % 2 ^ 64;
-                  c1 = r.c0;
-                  c0 = later.c % 2 ^ 64;
+                  words =
+                      record {
+                        a1 = r.words.a0;
+                        a0 = later.a % 2 ^ 64;
+                        b1 = r.words.b0;
+                        b0 = later.b % 2 ^ 64;
+                        c1 = r.words.c0;
+                        c0 = later.c % 2 ^ 64;
+                      };
                 };
           };
     }
@@ -73,17 +76,14 @@ stopping w = packed (state w.registers)
 unfoldable pub skipping : Registers → ℕ → Registers
 skipping r bytes = packed (steps (8 * bytes) (state r))
 
--- a record's answer, and the keystream from the place where the record stands
-abbrev pub answered : ℕ → Registers → Enciphered
-answered number r = record { refusal = number; next = r }
-
+-- the keystream from the place where a record stands
 abbrev pub ahead : Registers → Keystream
 ahead r = keystream (state r)
 
 -- bytes under the keystream where they stand
-unfoldable pub covering : Registers → List ℕ → Outcome Registers ℕ
-covering r bytes = outcome (skipping r (length bytes)) (enciphered (ahead r) bytes)
+abbrev pub covering : Registers → List ℕ → Outcome Registers ℕ
+covering = covers_by ahead skipping
 
 -- the bytes under the keystream, at the front of the output
-unfoldable pub enciphering : Registers → List ℕ → List ℕ → Outcome Enciphered ℕ
-enciphering = enciphers_by answered ahead skipping
+abbrev pub enciphering : Registers → List ℕ → List ℕ → Outcome (Answer Registers) ℕ
+enciphering = enciphers_by answer ahead skipping

@@ -1,8 +1,8 @@
 #![tactic(auto)]
 
-ghost use Rattle.std.specs.Prelude.{◌≡◌, ◌+◌, ◌-◌, ◌≤◌, min, length, drop};
-ghost use Rattle.octets.specs.Buffers.{slice, put};
+ghost use Rattle.std.specs.Prelude.{◌≡◌, min, length};
 ghost use Rattle.octets.specs.Stream.{enciphered};
+ghost use Rattle.refusals.specs.Answers.{answer_or};
 ghost use Rattle.refusals.specs.Outcome.{outcome};
 ghost use Rattle.taps.specs.Keystream.{keystream};
 ghost use Rattle.taps.specs.Registers.{steps};
@@ -11,23 +11,16 @@ ghost use Rattle.trivium.specs.Calls.{stepping, strides, striding, short_stridin
 ghost use Rattle.trivium.specs.Calls.{skipping, covering, enciphering};
 ghost use Rattle.trivium.specs.Record.{state};
 
+use ciphers::StreamCipher;
+use refusals::Refusal;
+pub use shift_registers::SixWords;
+use shift_registers::{Newest, shifted};
+
 // The 288 bits: a register's upper bits stand in its word 1 and its 64 newest in its word 0, the newest of all as the
 // lowest bit.
-#[derive(Clone, Copy)]
+#[derive(Clone, Copy, PartialEq, Eq)]
 pub struct Registers {
-    pub a1: u64,
-    pub a0: u64,
-    pub b1: u64,
-    pub b0: u64,
-    pub c1: u64,
-    pub c0: u64,
-}
-
-// The answers. A refusal of 0 says that the call was not refused.
-#[derive(Clone, Copy)]
-pub struct Made {
-    pub refusal: u8,
-    pub registers: Registers,
+    pub words: SixWords,
 }
 
 #[derive(Clone, Copy)]
@@ -56,47 +49,35 @@ pub struct Ran {
     pub next: Running,
 }
 
-#[derive(Clone, Copy)]
-pub struct Enciphered {
-    pub refusal: u8,
-    pub next: Registers,
-}
-
 pub const KEY_BYTES: usize = 10;
 
 pub const VALUE_BYTES: usize = 10;
 
 // One more than the highest number that a register's upper word holds of it: 29 of 93 bits, 20 of 84 and 47 of 111.
-const A_TOP: u64 = 536870912;
+const A_TOP: u64 = 1 << 29;
 
-const B_TOP: u64 = 1048576;
+const B_TOP: u64 = 1 << 20;
 
-const C_TOP: u64 = 140737488355328;
-
-fn at_most_eight(n: usize) -> usize
-    ensures { result ≡ min n 8 }
-{
-    if n < 8 { n } else { 8 }
-}
+const C_TOP: u64 = 1 << 47;
 
 impl Registers {
     // n bits and n steps, 64 at most, by what the taps give for them. The upper words move up, and spare bits go.
-    fn moved(self, n: usize, new: shift_registers::Newest) -> Strode
+    fn moved(self, n: usize, new: Newest) -> Strode
         requires { new ≡ newest (min n 64) (state self) }
         ensures { result ≡ strides (min n 64) self }
     {
-        let a1 = shift_registers::shifted(self.a1, self.a0, n);
-        let b1 = shift_registers::shifted(self.b1, self.b0, n);
-        let c1 = shift_registers::shifted(self.c1, self.c0, n);
+        let old = self.words;
         Strode {
             word: new.z,
             next: Registers {
-                a1: a1 % A_TOP,
-                a0: new.a,
-                b1: b1 % B_TOP,
-                b0: new.b,
-                c1: c1 % C_TOP,
-                c0: new.c,
+                words: SixWords {
+                    a1: shifted(old.a1, old.a0, n) % A_TOP,
+                    a0: new.a,
+                    b1: shifted(old.b1, old.b0, n) % B_TOP,
+                    b0: new.b,
+                    c1: shifted(old.c1, old.c0, n) % C_TOP,
+                    c0: new.c,
+                },
             },
         }
     }
@@ -105,11 +86,9 @@ impl Registers {
     pub fn step(self) -> Stepped
         ensures { result ≡ stepping self }
     {
-        let new = taps::step(self.a1, self.a0, self.b1, self.b0, self.c1, self.c0);
-        let strode = self.moved(1, new);
-        let next = strode.next;
+        let Strode { word, next } = self.moved(1, taps::step(self.words));
         Stepped {
-            bit: strode.word as u8,
+            bit: word as u8,
             next,
         }
     }
@@ -118,50 +97,37 @@ impl Registers {
     pub fn stride(self) -> Strode
         ensures { result ≡ striding self }
     {
-        let new = taps::stride(self.a1, self.a0, self.b1, self.b0, self.c1, self.c0);
-        self.moved(64, new)
+        self.moved(64, taps::stride(self.words))
     }
 
     // A part of a stride: n bits and n steps, and 64 if n is more.
     pub fn short_stride(self, n: usize) -> Strode
         ensures { result ≡ short_striding self n }
     {
-        let new = taps::short_stride(self.a1, self.a0, self.b1, self.b0, self.c1, self.c0, n);
-        self.moved(n, new)
+        self.moved(n, taps::short_stride(self.words, n))
     }
 
-    // Bytes under the keystream where they stand, and the registers behind them.
-    pub fn cover(self, bytes: &mut [u8]) -> Registers
-        ensures { outcome result bytes.new ≡ covering self bytes.old }
-    {
-        let n = bytes.len();
-        let mut running = Running::of(self);
-        let mut at = 0;
-        while at + 16 <= n {
-            running = running.cover_sixteen(bytes, at);
-            at += 16;
-        }
-        running.cover_rest(bytes, at)
-    }
-
-    // The input under the keystream, to the front of the output: it is copied, and enciphered there.
-    pub fn encipher(self, input: &[u8], output: &mut [u8]) -> Enciphered
-        ensures { outcome result output.new
+    // The input under the keystream, to the front of the output.
+    pub fn encipher(self, input: &[u8], output: &mut [u8]) -> Result<Registers, Refusal>
+        ensures { outcome (answer_or self result) output.new
             ≡ enciphering self input.now output.old }
     {
-        let n = input.len();
-        if output.len() < n {
-            return Enciphered {
-                refusal: refusals::NO_ROOM,
-                next: self,
-            };
+        ciphers::encipher(self, input, output)
+    }
+}
+
+impl StreamCipher for Registers {
+    ghost ahead = { λ r. keystream (state r) };
+
+    ghost moved = { skipping };
+
+    fn cover(self, bytes: &mut [u8]) -> Registers {
+        let mut running = Running::of(self);
+        let sixteens = bytes.len() / 16;
+        for i in 0..sixteens {
+            running = running.cover_sixteen(&mut bytes[16 * i..16 * i + 16]);
         }
-        octet_writer::copy(output, 0, input);
-        let next = self.cover(&mut output[0..n]);
-        Enciphered {
-            refusal: refusals::ACCEPTED,
-            next,
-        }
+        running.cover_rest(&mut bytes[16 * sixteens..])
     }
 }
 
@@ -177,17 +143,14 @@ impl Running {
     pub fn stop(self) -> Registers
         ensures { result ≡ stopping self }
     {
-        let last = self.registers;
-        let a = last.a1;
-        let b = last.b1;
-        let c = last.c1;
+        let last = self.registers.words;
         Registers {
-            a1: a % A_TOP,
-            a0: last.a0,
-            b1: b % B_TOP,
-            b0: last.b0,
-            c1: c % C_TOP,
-            c0: last.c0,
+            words: SixWords {
+                a1: last.a1 % A_TOP,
+                b1: last.b1 % B_TOP,
+                c1: last.c1 % C_TOP,
+                ..last
+            },
         }
     }
 
@@ -195,57 +158,53 @@ impl Running {
     pub fn stride(self) -> Ran
         ensures { result ≡ running self }
     {
-        let old = self.registers;
-        let new = taps::stride(old.a1, old.a0, old.b1, old.b0, old.c1, old.c0);
+        let old = self.registers.words;
+        let new = taps::stride(old);
         Ran {
             word: new.z,
             next: Running {
                 registers: Registers {
-                    a1: old.a0,
-                    a0: new.a,
-                    b1: old.b0,
-                    b0: new.b,
-                    c1: old.c0,
-                    c0: new.c,
+                    words: SixWords {
+                        a1: old.a0,
+                        a0: new.a,
+                        b1: old.b0,
+                        b0: new.b,
+                        c1: old.c0,
+                        c0: new.c,
+                    },
                 },
             },
         }
     }
 
-    // Sixteen bytes from `at`, under the keystream where they stand. After two strides each word of the registers is back
-    // in its place: a loop of these moves none. Bytes are loaded and stored as they stand, and the keystream is turned.
-    fn cover_sixteen(self, bytes: &mut [u8], at: usize) -> Running
-        requires { at + 16 ≤ length bytes.old }
+    // Sixteen bytes under the keystream where they stand. After two strides each word of the registers is back in its
+    // place: a loop of these moves none. Bytes are loaded and stored as they stand, and the keystream is turned; whether
+    // they have room is tested nowhere, since the compiler sees how many are lent.
+    fn cover_sixteen(self, bytes: &mut [u8]) -> Running
+        requires { length bytes.old ≡ 16 }
         ensures { (state result.registers ≡ steps 128 (state self.registers))
-            × (bytes.new ≡ put bytes.old at
-            (enciphered (keystream (state self.registers)) (slice bytes.old at 16))) }
+            × (bytes.new ≡ enciphered (keystream (state self.registers)) bytes.old) }
     {
-        let first = samples::eight_from(bytes, at);
-        let second = samples::eight_from(bytes, at + 8);
+        let first = samples::eight_from(bytes, 0);
+        let second = samples::eight_from(bytes, 8);
         let one = self.stride();
         let two = one.next.stride();
-        octet_writer::write_low(bytes, at, first ^ samples::swapped(one.word));
-        octet_writer::write_low(bytes, at + 8, second ^ samples::swapped(two.word));
+        octet_writer::write_low(bytes, 0, first ^ samples::swapped(one.word));
+        octet_writer::write_low(bytes, 8, second ^ samples::swapped(two.word));
         two.next
     }
 
-    // The bytes from `at`, the few behind the sixteens, under the keystream where they stand, eight or what is left of
-    // them at a turn; and the record behind them.
-    fn cover_rest(self, bytes: &mut [u8], at: usize) -> Registers
-        requires { at ≤ length bytes.old }
-        ensures { (result ≡ skipping self.registers (length bytes.old - at))
-            × (bytes.new ≡ put bytes.old at
-            (enciphered (keystream (state self.registers)) (drop at bytes.old))) }
+    // The few bytes behind the sixteens under the keystream where they stand, eight or what is left of them at a turn;
+    // and the record behind them.
+    fn cover_rest(self, bytes: &mut [u8]) -> Registers
+        ensures { outcome result bytes.new ≡ covering self.registers bytes.old }
     {
-        let end = bytes.len();
         let mut registers = self.stop();
-        let mut left = end - at;
-        while 0 < left {
-            let n = at_most_eight(left);
+        for at in (0..bytes.len()).step_by(8) {
+            let n = (bytes.len() - at).min(8);
             let strode = registers.short_stride(8 * n);
-            octet_writer::cover(bytes, end - left, n, strode.word);
+            octet_writer::cover(bytes, at, n, strode.word);
             registers = strode.next;
-            left -= n;
         }
         registers
     }

@@ -7,8 +7,7 @@ use native.Mathlib.{Nat.lt_of_lt_of_le, Omega.arith}
 use borrow.Author.Tests.{eqb-true, eqb-false, leb-true, leb-false, ltb-true, lt-ltb, le-ltb, not-true}
 use lib.{Dec.eqb, Dec.leb, Dec.ltb, Pow.pow_mono}
 use Rattle.refusals.proofs.Tests.{and_first, and_second, and_not}
-use Rattle.windows.specs.Windows.{window, marked, marking, run, is_fresh, moving, arriving, map_in_rule}
-use Rattle.windows.specs.declared.Arrival.{Arrival}
+use Rattle.windows.specs.Windows.{window, marked, marking, run, is_fresh, Arrived, moving, arriving, map_in_rule}
 use Rattle.windows.proofs.Windows.{moved_along, mark_own, mark_other, marking_below}
 use Rattle.windows.proofs.Windows.{run_own, run_marked, run_gap, run_below}
 
@@ -50,12 +49,12 @@ stale_is map ahead e = rw e
 -- the arrival says whether the block is fresh
 pub is_fresh_lem : (map ahead : ℕ) → (arriving map ahead).fresh ≡ is_fresh map ahead
 is_fresh_lem map ahead =
-    let says : Arrival → Bool = λ a. a.fresh in
+    let says : Arrived → Bool = λ a. a.fresh in
     by_test (is_fresh map ahead) (λ e. ap says (fresh_is map ahead e) ∙ sym e)
     (λ e. ap says (stale_is map ahead e) ∙ sym e)
 
 -- what is known of an arrival at a map of a block so far ahead
-pub record Goes (map ahead : ℕ) (a : Arrival) : Type 0 where
+pub record Goes (map ahead : ℕ) (a : Arrived) : Type 0 where
   -- the block is in the window and wasn't placed, and what follows fits the window as well
   pub near : ahead < window
   pub free : marked map ahead ≡ false

@@ -1,6 +1,6 @@
 -- Sixteen blocks in the air: which of the blocks past the count held are placed already, as a map of 16 bits. Bit j
 -- stands for the block that is j past the count.
-use Rattle.std.specs.Prelude.{ℕ, zero, suc, ◌+◌, ◌/◌, ◌%◌, ◌^◌, Bool, true, false, cond, not, ◌&&◌, eqb, ltb}
+use Rattle.std.specs.Prelude.{ℕ, zero, suc, ◌+◌, ◌/◌, ◌%◌, ◌^◌, Bool, true, false, cond, not, ◌&&◌, eqb, ltb, Option, Some, None}
 use Rattle.windows.specs.declared.Arrival.{Arrival}
 
 -- how many blocks may be in the air
@@ -24,13 +24,23 @@ run (suc most) map = cond (marked map 0) (suc (run most (map / 2))) 0
 abbrev pub is_fresh : ℕ → ℕ → Bool
 is_fresh map ahead = ltb ahead window && not (marked map ahead)
 
+-- what an arrival comes to: whether the block is fresh, by how much the count moves, and the map afterwards
+pub record Arrived : Type 0 where
+  pub fresh : Bool
+  pub moved : ℕ
+  pub map : ℕ
+
+-- what the code answers for it, at a map
+abbrev pub arrived : ℕ → Option Arrival → Arrived
+arrived map None = record { fresh = false; moved = 0; map = map }
+arrived map (Some a) = record { fresh = true; moved = a.moved; map = a.map }
+
 -- the map moves along as the count moves past the run
-abbrev pub moving : ℕ → Arrival
+abbrev pub moving : ℕ → Arrived
 moving map = let n = run window map in record { fresh = true; moved = n; map = map / 2 ^ n }
 
--- A block arrives: whether it is fresh, by how much the count moves, and the map afterwards. One that isn't fresh
--- changes nothing.
-unfoldable pub arriving : ℕ → ℕ → Arrival
+-- A block arrives. One that isn't fresh changes nothing.
+unfoldable pub arriving : ℕ → ℕ → Arrived
 arriving map ahead =
     cond (is_fresh map ahead) (moving (marking map ahead)) (record { fresh = false; moved = 0; map = map })
 

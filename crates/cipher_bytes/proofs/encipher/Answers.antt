@@ -1,0 +1,33 @@
+-- The length decides, and then the cipher's number.
+use Rattle.std.proofs.Common.{refl}
+use Rattle.std.proofs.lemmas.Result.{err_from_is_err_and}
+use Rattle.refusals.specs.Answers.{answer}
+use Rattle.refusals.proofs.{Answers.never_accepted, Settled.left_at}
+use Rattle.trivium.specs.Calls.{skipping, ahead}
+use Rattle.record_bytes.proofs.Ciphers.{kept_refused, kept_done}
+use Rattle.cipher_bytes.specs.{Calls.cipher_encipher, Record.cipher_size, Record.cipher_bytes, Record.cipher_in}
+use Rattle.cipher_bytes.proofs.Record.{length_cipher, cipher_read, cipher_written}
+use Rattle.cipher_bytes.proofs.encipher.Goals as goal
+
+pub returns-then-cipher-ne-CIPHER_BYTES : goal.returns-then-cipher-ne-CIPHER_BYTES
+unfolding cipher_encipher
+returns-then-cipher-ne-CIPHER_BYTES c = left_at _ _ _ 0 tt c.if-cipher-ne-CIPHER_BYTES.true
+
+pub returns-in_err-next : goal.returns-in_err-next
+unfolding cipher_encipher
+returns-in_err-next c =
+    let no = err_from_is_err_and c.from_residual.result c.from_residual.ensures.1 in
+    rw (no.1, no.2)
+    (kept_refused cipher_size cipher_in cipher_bytes ahead skipping answer (λ a. a.refusal) (λ a. a.next) (λ n r. refl)
+    (λ n r. refl) c.args.cipher.now c.args.input.now c.args.output.now c.in_err-next.ensures
+    (cipher_read c.args.cipher.now c.six_words_in.ensures refl)
+    c.if-cipher-ne-CIPHER_BYTES.false (never_accepted c.in_err-next.field-0.0))
+
+pub returns : goal.returns
+unfolding cipher_encipher
+returns c =
+    kept_done cipher_size cipher_in cipher_bytes ahead skipping answer (λ a. a.refusal) (λ a. a.next) (λ n r. refl)
+    (λ n r. refl) c.args.cipher.now c.args.input.now c.args.output.now c.in_ok-next.ensures
+    (cipher_read c.args.cipher.now c.six_words_in.ensures refl)
+    c.if-cipher-ne-CIPHER_BYTES.false length_cipher refl
+    (cipher_written _ _ refl c.write_six_words.ensures)
