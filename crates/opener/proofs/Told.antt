@@ -1,7 +1,7 @@
 -- What a call that opens a file knows by what was told to one who has keys: a flaw is passed on, a later rule lacks no
 -- byte, and of a file without a flaw the key section and the body stand where the answer says.
 use mathlib.Core.{Path.◌≡◌, Path.refl, Path.sym, Path.ap, Path.◌∙◌, Logic.◌≢◌, List.List, List.◌++◌}
-use Prim.Native.Nat.{ℕ, ◌+◌, ◌*◌, ◌≤◌}
+use Prim.Native.Nat.{ℕ, ◌+◌, ◌-◌, ◌*◌, ◌≤◌}
 use native.Mathlib.Omega.{arith}
 use lib.ListN.{length}
 use Rattle.std.specs.Prelude.{Result, Ok, Err, IsOk}
@@ -23,8 +23,13 @@ use Rattle.pack.specs.Places.{key_place, key_number, value_place, sample_count, 
 use Rattle.pack.proofs.Answers.{ok_first, ok_done, err_first, err_lacks}
 use Rattle.pack.proofs.Theorems.{keyed_numbered, keyed_shown}
 use Rattle.inspector.proofs.Shown.{shown}
-use Rattle.chunks.specs.declared.Cipher.{Cipher}
+use Rattle.chunks.specs.{Ahead.ahead, declared.Cipher.Cipher}
 use Rattle.bodies.specs.Bodies.{Ready, ready, begun, beginning, beginning_from}
+
+-- a cipher that begins isn't refused
+ok_begun : (result : Result Cipher Refusal) (stream : Keystream) → begun result ≡ ready accepted stream → IsOk result
+ok_begun (Ok cipher) stream e = refl
+ok_begun (Err refusal) stream e = absurd (never_accepted refusal (ap (λ (r : Ready). r.refusal) e))
 
 module _ (r : Rings) (file : List ℕ) where
   abbrev faults : List Fault
@@ -127,7 +132,34 @@ module _ (r : Rings) (file : List ℕ) where
     deciphered stream body begun there =
         λ i. words_of (enciphered ((begun ∙ begins) i).stream (there i))
 
--- a cipher that begins isn't refused
-pub ok_begun : (result : Result Cipher Refusal) (stream : Keystream) → begun result ≡ ready accepted stream → IsOk result
-ok_begun (Ok cipher) stream e = refl
-ok_begun (Err refusal) stream e = absurd (never_accepted refusal (ap (λ (r : Ready). r.refusal) e))
+    -- ---- by the numbers that the answer has, for a function that takes the body
+
+    begins_at : (result : Result Cipher Refusal) → begun result ≡ beginning_from r file (opened.value_at - 2)
+        → begun result ≡ beginning_from r file (key_place file)
+    begins_at result e = e ∙ ap (beginning_from r file) (omega (arith, known.value))
+
+    pub is_begun : (result : Result Cipher Refusal) → begun result ≡ beginning_from r file (opened.value_at - 2) → IsOk result
+    is_begun result e = ok_begun result _ (begins_at result e ∙ begins)
+
+    abbrev body_end : ℕ
+    body_end = opened.loops_at - 1
+
+    abbrev body_start : ℕ
+    body_start = body_end - 2 * opened.samples
+
+    pub body_read : (cipher : Cipher) → begun (Ok cipher) ≡ beginning_from r file (opened.value_at - 2)
+        → (length (slice file body_start (body_end - body_start)) ≡ 2 * opened.samples)
+        × (words_of (enciphered (ahead cipher) (slice file body_start (body_end - body_start)))
+        ≡ (parts_of (cipher_in file) (ring_in r file) file).samples)
+    body_read cipher e =
+        let place = body_place (cipher_in file) file in
+        let size = 2 * sample_count (cipher_in file) file in
+        let start : body_start ≡ place = omega (arith, known.loops, known.samples) in
+        let long : body_end - body_start ≡ size = omega (arith, known.loops, known.samples) in
+        let there : slice file body_start (body_end - body_start) ≡ slice file place size =
+        λ i. slice file (start i) (long i) in
+        let whole = ap length there ∙ length_slice file place size (omega (arith, known.loops, known.there))
+        ∙ omega (arith, known.samples) in (
+          whole,
+          deciphered (ahead cipher) _ (begins_at (Ok cipher) e) there,
+        )
