@@ -7,12 +7,15 @@ ghost use Rattle.octets.specs.Buffers.{put};
 ghost use Rattle.octets.specs.Digits.{digits, number_at, word};
 ghost use Rattle.samples.specs.Words.{swapped};
 
-// Copies a run to the elements from `at`, if it has room there.
+// Copies a run to the elements from `at`, if it has room there: byte by byte, which the compiler does many at a time. The
+// library's copy would call `memmove`, and ask for it where this library is linked.
 pub fn copy(d: &mut [u8], at: usize, run: &[u8])
     ensures { d.new ≡ put d.old at run.now }
 {
     if at <= d.len() && run.len() <= d.len() - at {
-        d[at..at + run.len()].copy_from_slice(run);
+        for (i, byte) in run.iter().enumerate() {
+            d[at + i] = *byte;
+        }
     }
 }
 
