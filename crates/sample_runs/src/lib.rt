@@ -13,7 +13,9 @@ pub fn read_words(bytes: &[u8], output: &mut [i16])
     let words = bytes.len() / 2;
     if words <= output.len() {
         for i in 0..words {
-            output[i] = samples::word(bytes[2 * i], bytes[2 * i + 1]);
+            let taken = samples::signed(u16::from_le_bytes([bytes[2 * i], bytes[2 * i + 1]]));
+            let [lower, upper] = samples::bits(taken).to_le_bytes();
+            output[i] = samples::word(lower, upper);
         }
     }
 }
@@ -24,7 +26,7 @@ pub fn write_words(sound: &[i16], output: &mut [u8])
 {
     if sound.len() <= output.len() / 2 {
         for (i, sample) in sound.iter().enumerate() {
-            let [upper, lower] = sample.to_be_bytes();
+            let [upper, lower] = samples::bits(*sample).to_be_bytes();
             output[2 * i] = upper;
             output[2 * i + 1] = lower;
         }

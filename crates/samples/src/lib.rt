@@ -18,7 +18,7 @@ pub fn signed(n: u16) -> i16
 pub fn word(upper: u8, lower: u8) -> i16
     ensures { result ≡ word_of upper lower }
 {
-    i16::from_be_bytes([upper, lower]).max(LOWEST)
+    signed(u16::from_be_bytes([upper, lower])).max(LOWEST)
 }
 
 // The 16 bits of a sample.

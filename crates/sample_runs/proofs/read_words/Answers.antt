@@ -1,23 +1,54 @@
--- `sample_runs::read_words` meets its contract: word after word, in its place.
-use Rattle.std.proofs.Common.{arith, ◌≡◌, ℕ, ◌/◌, List, length, sym, ◌∙◌, pos}
-use Rattle.std.proofs.lemmas.Int.{to_z-of_z}
+-- `sample_runs::read_words` meets its contract: word after word is taken as it stands and then turned, in its place; and
+-- words that are taken so and turned are the samples that are read.
+use Rattle.std.proofs.Common.{arith, ◌≡◌, ℕ, ◌+◌, ◌*◌, ◌/◌, ◌%◌, ◌<◌, [], ◌∷◌, List, length, get_or, sym, ap, ap₂, ◌∙◌, ℤ, pos}
+use Rattle.std.proofs.lemmas.{Int.to_z-of_z, List.get_or-map}
 use Rattle.std.specs.Int.{w16}
 use lib.ListN.{set}
-use Rattle.octets.proofs.Buffers.{put_none, paste_front, paste_all}
-use Rattle.samples.specs.Words.{word_of, words_of}
+use Rattle.octets.specs.Digits.{number, number_after}
+use Rattle.octets.proofs.{Buffers.put_none, Buffers.paste_front, Buffers.paste_all, Numbers.Below}
+use Rattle.samples.specs.Words.{signed, unsigned, word_of, words_of}
 use Rattle.samples.proofs.Words.{length_twos, twos_at}
+use Rattle.sample_runs.specs.Unturned.{low_first, unturned, turned}
+use Rattle.sample_runs.proofs.Samples.{turned_samples}
 use Rattle.sample_runs.proofs.read_words.Goals as goal
 
 long : (bytes : List ℕ) → length (words_of bytes) ≡ length bytes / 2
 long bytes = length_twos word_of bytes
 
+-- a sample is the word of its two bytes, turned
+in_place : (bytes : List ℕ) → Below 256 bytes → (i : ℕ) → i < length bytes / 2
+    → turned (low_first (get_or bytes (2 * i) 0) (get_or bytes (2 * i + 1) 0)) ≡ get_or (words_of bytes) i (pos 0)
+in_place bytes below i h =
+    ap turned (sym (twos_at low_first bytes i (pos 0) h))
+    ∙ sym (get_or-map turned (unturned bytes) i (pos 0) (pos 0) (omega (arith, length_twos low_first bytes)))
+    ∙ ap (λ (l : List ℤ). get_or l i (pos 0)) (turned_samples bytes below)
+
+-- two bytes as a number, the least significant first
+low_number : (first second : ℕ) → first + second * 256 ≡ number 256 (second ∷ first ∷ [])
+unfolding number_after
+low_number first second = omega arith
+
 pub loop-i-preserved : goal.loop-i-preserved
 loop-i-preserved c =
     let bytes : List ℕ = c.args.bytes.now in
     let i : ℕ = c.loop-i.i in
-    let there = twos_at word_of bytes i (pos 0) (omega arith) in
+    let first : ℕ = get_or bytes (2 * i) 0 in
+    let second : ℕ = get_or bytes (2 * i + 1) 0 in
+    let z : ℤ = c.signed-taken.result in
+    let taken : z ≡ low_first first second =
+    c.signed-taken.ensures ∙ ap signed (c.from_le_bytes.ensures ∙ low_number first second) in
+    let bits : c.bits.result ≡ unsigned z =
+    c.bits.ensures ∙ ap unsigned (to_z-of_z w16 z (record { sfits = c.signed-taken.type_inv })) in
+    let bytes_of = c.to_le_bytes.ensures in
+    let lower : get_or c.to_le_bytes.result 0 0 ≡ unsigned z % 256 =
+    ap (λ (l : List ℕ). get_or l 0 0) bytes_of ∙ ap (λ (n : ℕ). n % 256) bits in
+    let top : c.bits.result / 256 % 256 ≡ c.bits.result / 256 = omega (arith, c.bits.type_inv) in
+    let upper : get_or c.to_le_bytes.result 1 0 ≡ unsigned z / 256 =
+    ap (λ (l : List ℕ). get_or l 1 0) bytes_of ∙ top ∙ ap (λ (n : ℕ). n / 256) bits in
     let made =
-    to_z-of_z w16 c.word.result (record { sfits = c.word.type_inv }) ∙ c.word.ensures ∙ sym there in
+    to_z-of_z w16 c.word.result (record { sfits = c.word.type_inv })
+    ∙ c.word.ensures ∙ ap₂ word_of lower upper ∙ ap turned taken
+    ∙ in_place bytes (λ j. omega (arith, c.type_inv.bytes j)) i (omega arith) in
     (λ j. set (c.loop-i.invariant j) i (made j))
     ∙ paste_front c.args.output.now (words_of bytes) i (pos 0) (omega arith) (omega (arith, long bytes))
 

@@ -1,13 +1,13 @@
 -- `sample_runs::write_words` meets its contract: the two bytes of sample after sample, in their place.
 use Rattle.std.proofs.Common.{arith, rules, ◌≡◌, ℕ, ◌+◌, ◌*◌, ◌/◌, ◌%◌, ◌<◌, ◌≤◌, List, length, get_or, sym, ap, ◌∙◌, ℤ, pos}
 use Rattle.std.proofs.lemmas.Int.{to_z-of_z}
-use Rattle.std.specs.Int.{cast_unsigned, w16}
+use Rattle.std.specs.Int.{w16}
 use mir.Val.{SFits}
 use lib.ListN.{set}
 use lib.Seq.{paste}
 use Rattle.octets.proofs.Buffers.{put_none, paste_front, paste_all}
 use Rattle.samples.specs.Words.{unsigned, bytes_of_all}
-use Rattle.samples.proofs.Words.{as_unsigned, byte_upper, byte_lower, length_bytes}
+use Rattle.samples.proofs.Words.{byte_upper, byte_lower, length_bytes}
 use Rattle.sample_runs.proofs.write_words.Goals as goal
 
 -- one sample more, its upper byte first
@@ -34,7 +34,7 @@ loop-i-preserved c =
     let i : ℕ = c.loop-i.i in
     let z : ℤ = get_or sound i (pos 0) in
     let fits : SFits w16 z = search rules in
-    let bits = ap (cast_unsigned w16) (to_z-of_z w16 z fits) ∙ as_unsigned z in
+    let bits = c.bits.ensures ∙ ap unsigned (to_z-of_z w16 z fits) in
     let bytes = c.to_be_bytes.ensures in
     ap (λ (d : List ℕ). set (set d (2 * i) (get_or c.to_be_bytes.result 0 0)) (2 * i + 1) (get_or c.to_be_bytes.result 1 0))
     c.loop-i.invariant
