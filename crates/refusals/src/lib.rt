@@ -3,6 +3,9 @@
 ghost use Rattle.std.specs.Prelude.{◌≡◌};
 ghost use Rattle.refusals.specs.Answers.{number_in, lacking_nothing};
 
+// What a call that isn't refused answers, where an answer is a number.
+pub const ACCEPTED: u8 = 0;
+
 // Why a call is refused. The numbers are document 01's: what each says stands in specs/Numbers.antt.
 #[derive(Clone, Copy, PartialEq, Eq)]
 pub enum Refusal {
@@ -66,7 +69,7 @@ pub fn number(answer: Result<(), Refusal>) -> u8
     ensures { result ≡ number_in answer }
 {
     match answer {
-        Ok(()) => 0,
+        Ok(()) => ACCEPTED,
         Err(refusal) => refusal as u8,
     }
 }
