@@ -20,8 +20,9 @@ pub fn open(
 {
     let rings = rings::rings_in(keys)?;
     if answer.len() < survey_bytes::NUMBERS {
-        let told = inspector::inspect(file, rings)?;
-        stereo_opener::frames_fault(told.samples, frames.len())?;
+        let told = inspector::inspect(file, rings);
+        let samples = told.map_or(0, |opened| opened.samples);
+        stereo_opener::frames_fault(told.and(Ok(())), samples, frames.len())?;
         return Err(Refusal::NoRoom);
     }
     let opened = stereo_opener::open(file, rings, frames)?;

@@ -4,7 +4,7 @@
 // room.
 ghost use Rattle.std.specs.Prelude.{◌≡◌, ◌*◌, length, Ok};
 ghost use Rattle.octets.specs.Stream.{enciphered};
-ghost use Rattle.refusals.specs.Answers.{number_in};
+ghost use Rattle.refusals.specs.Answers.{verdict_in};
 ghost use Rattle.refusals.specs.Outcome.{outcome};
 ghost use Rattle.refusals.specs.Rules.{first};
 ghost use Rattle.samples.specs.Words.{words_of};
@@ -13,22 +13,26 @@ ghost use Rattle.pack.specs.Answers.{opening_of};
 ghost use Rattle.pack.specs.Calls.{inspecting_file};
 ghost use Rattle.pack.specs.Ciphers.{cipher_in, ring_in};
 ghost use Rattle.pack.specs.Places.{parts_of};
-ghost use Rattle.stereo_bodies.specs.Reading.{frames_faults};
-ghost use Rattle.stereo_opener.specs.Calls.{opening_stereo_file};
+ghost use Rattle.stereo_opener.specs.Calls.{after_keyed, opening_stereo_file};
 
 use chunks::Cipher;
 use pack::{Opened, Rings};
 use refusals::{Flaw, Refusal};
 
-// Whether samples are whole frames, and then the room for them.
-pub fn frames_fault(samples: usize, room: usize) -> Result<(), Refusal>
-    ensures { number_in result ≡ first (frames_faults samples room) }
+// The order: what one who has keys is told of a file, its tag's refusal too, then whether its samples are whole frames,
+// then the room for them.
+#[tactic(auto, using(crate::proofs::Order::told_first, crate::proofs::Order::told_number, crate::proofs::Order::told_lacks))]
+pub fn frames_fault(keyed: Result<(), Flaw>, samples: usize, room: usize) -> Result<(), Flaw>
+    ensures order { (verdict_in result).number
+        ≡ first (after_keyed (verdict_in keyed).number samples room) }
+    ensures lacks { (verdict_in result).lacks ≡ (verdict_in keyed).lacks }
 {
+    keyed?;
     if samples % 2 != 0 {
-        return Err(Refusal::OddSamples);
+        return Err(Refusal::OddSamples.into());
     }
     if room < samples {
-        return Err(Refusal::NoRoom);
+        return Err(Refusal::NoRoom.into());
     }
     Ok(())
 }
@@ -50,8 +54,10 @@ pub fn open(file: &[u8], rings: Rings, output: &mut [f32]) -> Result<Opened, Fla
     ensures { outcome (opening_of result) output.new
         ≡ opening_stereo_file rings file.now output.old }
 {
-    let opened = inspector::inspect(file, rings)?;
-    frames_fault(opened.samples, output.len())?;
+    let told = inspector::inspect(file, rings);
+    let samples = told.map_or(0, |opened| opened.samples);
+    frames_fault(told.and(Ok(())), samples, output.len())?;
+    let opened = told.unwrap();
     let (cipher, body) = body(file, rings, opened);
     stereo_bodies::read_frames(cipher, body, output);
     Ok(opened)
