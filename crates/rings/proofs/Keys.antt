@@ -1,7 +1,8 @@
 -- Keys copied over blank bytes (`keys_in`): as many bytes are the run itself, and a part of it is that part.
 use mathlib.Core.{Path.◌≡◌, Path.sym, Path.ap, Path.◌∙◌, List.List}
 use Prim.Native.Nat.{ℕ, ◌+◌, ◌≤◌}
-use lib.ListN.{length, replicate, length-replicate}
+use native.Mathlib.Omega.{arith}
+use lib.{ListN.length, ListN.replicate, ListN.length-replicate, Seq.take_all}
 use Rattle.octets.specs.Buffers.{slice, put}
 use Rattle.octets.proofs.{Buffers.put_whole, Slices.length_slice}
 use Rattle.rings.specs.Ring.{keys_bytes}
@@ -18,4 +19,5 @@ key_copied size at bytes copied cut room =
 pub whole : (bytes : List ℕ) {keys : List ℕ} → keys ≡ put (replicate keys_bytes 0) 0 bytes → length bytes ≡ keys_bytes
     → keys ≡ bytes
 whole bytes e long =
-    e ∙ put_whole (replicate keys_bytes 0) bytes (long ∙ sym (length-replicate {A = ℕ} keys_bytes 0))
+    let all : slice bytes 0 keys_bytes ≡ bytes = take_all keys_bytes bytes (omega arith) in
+    key_copied keys_bytes 0 bytes e (sym all) (omega arith) ∙ all

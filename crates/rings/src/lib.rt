@@ -64,8 +64,8 @@ pub fn rings_of(keys: &[u8; KEYS_BYTES]) -> Rings
 pub fn rings_in(keys: &[u8]) -> Result<Rings, Refusal>
     ensures { result ≡ rings_in keys.now }
 {
-    match keys.try_into() {
-        Ok(all) => Ok(rings_of(all)),
-        Err(_) => Err(Refusal::BadKey),
+    if keys.len() != KEYS_BYTES {
+        return Err(Refusal::BadKey);
     }
+    Ok(rings_of(&keys_in(keys)))
 }
