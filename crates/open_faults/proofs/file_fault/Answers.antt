@@ -1,6 +1,7 @@
 -- The tests are the rules, one after the other, and then the key's rules decide.
 use Rattle.std.proofs.Common.{◌≡◌, ℕ, ◌+◌, ◌-◌, List, take, drop, refl, sym, ap, ◌∙◌, arith}
-use Rattle.refusals.proofs.Faults.{verdict_from}
+use Rattle.refusals.specs.{Answers.number_of, declared.Flaw.Flaw}
+use Rattle.refusals.proofs.Faults.{verdict_at, verdict_from}
 use Rattle.octets.specs.Buffers.{slice}
 use Rattle.pack.specs.{Faults.file_faults, Layout.name_good, Places.byte_at}
 use Rattle.end_faults.proofs.Exits.{cut_at, no_at}
@@ -19,7 +20,9 @@ returns-in_err-reach c =
 
 pub returns-then-count-gt-MOST_NAME : goal.returns-then-count-gt-MOST_NAME
 unfolding file_faults
-returns-then-count-gt-MOST_NAME c = no_at 1 _ c.into.ensures (omega arith) refl refl
+returns-then-count-gt-MOST_NAME c =
+    verdict_at 1 _ (omega arith) (ap (λ (f : Flaw). number_of f.refusal) c.into.ensures)
+    (omega (arith, ap (λ (f : Flaw). f.lacks) c.into.ensures))
 
 pub returns-in_err-reach-2 : goal.returns-in_err-reach-2
 unfolding file_faults

@@ -82,7 +82,7 @@ returns-in_err-kind c =
     ap (wrote a.output.now a.written.now)
     (sym (number_passed e.result c.in_err-kind.field-0.0 e.ensures.1) ∙ ap number_of why.0)
     ∙ settled_left _ _ _ bad_key_count (omega arith)
-    (count_refuses a.cipher a.keys.now p _ _ keys.0 c.in_ok-name_fault.ensures why.1)
+    (count_refuses a.cipher a.keys.now p _ _ keys.0 (omega arith) why.1)
 
 pub returns-in_err-written : goal.returns-in_err-written
 returns-in_err-written c =

@@ -16,18 +16,20 @@ use Rattle.surveyor.proofs.survey.Goals as goal
 
 -- a flaw of the rules is the answer
 refused : (faults : List Fault) (done : Opened) (r : Result code.Opened Flaw) (flaw : Flaw)
-    → IsErrAnd r (λ y. y ≡ flaw) → verdict_of (number_of flaw.refusal) flaw.lacks ≡ verdict faults
+    → IsErrAnd r (λ y. y ≡ flaw) → number_of flaw.refusal ≡ first faults → flaw.lacks ≡ lacking faults
     → opening_of r ≡ settled faults done (refused_opening (lacking faults))
-refused faults done (Ok a) flaw e v = absurd e
-refused faults done (Err y) flaw e v =
+refused faults done (Ok a) flaw e n l = absurd e
+refused faults done (Err y) flaw e n l =
     ap (λ (f : Flaw). opening_of (Err f)) e
-    ∙ ap (λ (w : Verdict). refused_opening w.lacks (number_of flaw.refusal)) v
-    ∙ settled_left faults done _ _ (never_accepted flaw.refusal) (ap (λ (w : Verdict). w.number) v)
+    ∙ ap (λ (lacks : ℕ). refused_opening lacks (number_of flaw.refusal)) l
+    ∙ settled_left faults done _ _ (never_accepted flaw.refusal) n
 
 pub returns-in_err-file_fault : goal.returns-in_err-file_fault
 unfolding surveying
 returns-in_err-file_fault c =
-    refused _ _ c.from_residual.result _ c.from_residual.ensures.1 c.in_err-file_fault.ensures
+    let told = c.in_err-file_fault.ensures in
+    refused _ _ c.from_residual.result _ c.from_residual.ensures.1 (ap (λ (w : Verdict). w.number) told)
+    (omega (arith, ap (λ (w : Verdict). w.lacks) told))
 
 -- what a file that passed has shown
 module _ (f : List ℕ) (passed : verdict_of accepted 0 ≡ verdict (file_faults (cipher_in f) f)) where
