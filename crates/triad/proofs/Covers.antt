@@ -1,5 +1,5 @@
 -- A run covered word by word, the bytes of each under a word of the keystream, where they stand.
-use mathlib.Core.{Path.◌≡◌, Path.sym, Path.ap, Path.ap₂, Path.subst, Path.◌∙◌, List.List, List.◌++◌}
+use mathlib.Core.{Path.◌≡◌, Path.refl, Path.sym, Path.ap, Path.ap₂, Path.subst, Path.◌∙◌, List.List, List.◌++◌}
 use mathlib.Core.List.{append_assoc}
 use Prim.Native.Nat.{ℕ, ◌+◌, ◌*◌, ◌/◌, ◌%◌, ◌^◌, ◌≤◌}
 use native.Mathlib.{Nat.zero-add, Omega.arith}
@@ -9,10 +9,12 @@ use Rattle.octets.specs.{Buffers.slice, Buffers.placed, Buffers.put, LowFirst.bi
 use Rattle.octets.specs.Stream.{Keystream, from, enciphered}
 use Rattle.octets.proofs.Buffers.{goes_on, drop_placed, put_whole, put_placed}
 use Rattle.octets.proofs.Slices.{length_slice}
-use Rattle.octets.proofs.Streams.{length_enciphered, length_run, enciphered_same, runs_append}
-use Rattle.shift_registers.specs.Registers.{State}
+use Rattle.octets.proofs.Streams.{byte_of_word, length_enciphered, length_run, enciphered_same, runs_append}
+use Rattle.samples.specs.Words.{swapped}
+use Rattle.shift_registers.specs.{Registers.State, Words.shifted}
 use Rattle.triad.specs.State.{updates, zeros}
 use Rattle.triad.proofs.{Bytes.Lowly, Steps.silent, Steps.bytes_on}
+use Rattle.triad.proofs.Parts as parts
 
 -- n bytes from a message of nothing, behind those that came before
 pub gone_on : (s now : State) (at m : ℕ) {next : State} {n message : ℕ} → now ≡ updates (zeros (8 * at)) s
@@ -64,6 +66,23 @@ covers_on k l d e at m w {part} there same room on gives done =
   where
     front_room : at + m ≤ length d → 0 + (at + m) ≤ length d
     front_room h = omega arith
+
+-- the same of up to eight bytes, as they are under the first bytes of the word swapped; `stream` is what the code has
+pub covers_part : (k l : Keystream) (d e : List ℕ) (at n z : ℕ) {part : List ℕ} {stream : ℕ} → n ≤ 8
+    → e ≡ placed d 0 (enciphered k (slice d 0 at)) → length e ≡ length d → at + n ≤ length d → l ≡ from at k → Lowly 8 z l
+    → part ≡ enciphered (bytes_of stream) (slice e at n) → stream ≡ z
+    → put_mid at n e part ≡ placed d 0 (enciphered k (slice d 0 (at + n)))
+covers_part k l d e at n z {part} {stream} few there same room on gives done given =
+    let top : ℕ = shifted 0 (swapped z) (8 * n) in
+    let some : length (slice e at n) ≡ n = length_slice e at n (omega arith) in
+    let own : enciphered (byte_of_word n top) (slice e at n) ≡ enciphered (bytes_of z) (slice e at n) =
+    enciphered_same (byte_of_word n top) (bytes_of z) (slice e at n)
+    (λ i h. parts.first_bytes n z (bytes_of z) few (λ j b. refl) i (omega arith)) in
+    let under : part ≡ enciphered (byte_of_word n top) (slice e at n) =
+    done ∙ ap (λ (v : ℕ). enciphered (bytes_of v) (slice e at n)) given ∙ sym own in
+    in_middle e at n part
+    (ap length under ∙ length_enciphered (byte_of_word n top) (slice e at n) ∙ some) (omega arith)
+    ∙ parts.covers_on k l d e at n top there room on (parts.first_bytes n z l few gives) (ap (put e at) under)
 
 -- all of them
 pub covers_all : (k : Keystream) (d : List ℕ) {e : List ℕ} {n : ℕ} → e ≡ placed d 0 (enciphered k (slice d 0 n))

@@ -13,7 +13,7 @@ use Rattle.triad.specs.Calls.{ahead, skipping}
 use Rattle.triad.specs.{Record.state, Record.packed, State.updates, State.zeros}
 use Rattle.triad.proofs.{Bytes.gone, Bytes.word_gives, Steps.ran_word, Steps.ran_state, Steps.short_word}
 use Rattle.triad.proofs.Steps.{short_next}
-use Rattle.triad.proofs.Covers.{bytes_of, gone_on, covers_on, covers_all}
+use Rattle.triad.proofs.Covers.{bytes_of, gone_on, covers_on, covers_part, covers_all}
 use Rattle.triad.proofs.RegistersStreamCipher.cover.Goals as goal
 
 pub loop-i-init : goal.loop-i-init
@@ -66,8 +66,8 @@ returns c =
     ∙ ap (λ (n : ℕ). updates (zeros (8 * n)) s) all) in
     let covered =
     covers_all k bytes
-    (covers_on k (ahead l.moved) bytes l.bytes at few word done (omega arith) (omega arith) (gone s at there)
-    (λ i h. word_gives (state l.moved) (short_word l.moved _ _ c.short_stride-ran.ensures) (omega arith) i (omega arith))
-    c.cover_word-2.ensures)
+    (covers_part k (ahead l.moved) bytes l.bytes at few word (omega arith) done (omega arith) (omega arith) (gone s at there)
+    (word_gives (state l.moved) (short_word l.moved _ _ c.short_stride-ran.ensures) (omega arith)) c.cover_word-2.ensures
+    (omega arith))
     all in
     λ i. outcome (next i) (covered i)

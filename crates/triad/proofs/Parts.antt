@@ -1,18 +1,43 @@
--- Runs covered by words with the most significant byte first, as they would be covered by numbers read and written: the
--- first bytes of a word, and each part behind those before it.
-use mathlib.Core.{Path.◌≡◌, Path.sym, Path.ap, Path.ap₂, Path.subst, Path.◌∙◌, List.List, List.◌++◌}
-use Prim.Native.Nat.{ℕ, ◌+◌, ◌-◌, ◌*◌, ◌/◌, ◌%◌, ◌^◌, ◌<◌, ◌≤◌}
-use native.Mathlib.{Nat.zero-add, Nat.zero-mul, Nat.mod-eq_of_lt, Nat.lt_of_le_of_lt, Omega.arith}
-use lib.{ListN.length, ListN.take, Pow.shr-shr, Pow.shr_le}
-use Rattle.octets.specs.{Buffers.slice, Buffers.placed, Buffers.put}
+-- Parts of a run under words of the keystream with the first byte as the most significant: all eight bytes of a word, the
+-- first bytes of one, and each part behind those before it.
+use mathlib.Core.{Path.◌≡◌, Path.refl, Path.sym, Path.ap, Path.ap₂, Path.subst, Path.◌∙◌, List.List, List.◌++◌}
+use mathlib.Core.List.{reverse}
+use Prim.Native.Nat.{ℕ, zero, suc, ◌+◌, ◌-◌, ◌*◌, ◌/◌, ◌%◌, ◌^◌, ◌<◌, ◌≤◌}
+use native.Mathlib.{Nat.zero-add, Nat.mod-eq_of_lt, Nat.lt_of_le_of_lt, Omega.arith}
+use lib.{ListN.length, ListN.get_or, ListN.take, Pow.shr-shr, Pow.shr_le}
+use Rattle.octets.specs.{Buffers.slice, Buffers.placed, Buffers.put, Digits.digits}
 use Rattle.octets.specs.Stream.{Keystream, from, enciphered}
 use Rattle.octets.proofs.Buffers.{goes_on, drop_placed}
-use Rattle.octets.proofs.Numbers.{digit_at}
+use Rattle.octets.proofs.LowFirst.{below_reverse, byte_up, length_reverse}
+use Rattle.octets.proofs.Numbers.{Below, digit_at, length_digits, number_below}
 use Rattle.octets.proofs.{Slices.length_slice, Streams.power_of_bytes}
 use Rattle.octets.proofs.Streams.{Gives, byte_of_word, length_run, enciphered_same, runs_append}
+use Rattle.samples.specs.Words.{swapped}
+use Rattle.samples.proofs.Reversed.{swapped_digits}
 use Rattle.shift_registers.specs.Words.{shifted}
+use Rattle.triad.proofs.Bytes.{Lowly}
 
--- the first n bytes of a word
+-- a word of bits swapped, its first byte the most significant
+pub swap_gives : (z : ℕ) (k : Keystream) {w : ℕ} → w ≡ swapped z → Lowly 8 z k → Gives 8 w k
+swap_gives z k e gives i h =
+    ap (λ (v : ℕ). get_or (digits 256 8 v) i 0) e
+    ∙ ap (λ (l : List ℕ). get_or l i 0) (swapped_digits z)
+    ∙ byte_up 256 8 z i h ∙ gives i h
+
+below_digits : (n x : ℕ) → Below 256 (digits 256 n x)
+unfolding digits
+below_digits zero x i = omega arith
+below_digits (suc n) x zero = omega arith
+below_digits (suc n) x (suc i) = below_digits n x i
+
+swapped_below : (z : ℕ) → swapped z < 2 ^ 64
+unfolding swapped
+swapped_below z =
+    let back : List ℕ = reverse (digits 256 8 z) in
+    subst (λ (n : ℕ). swapped z < 256 ^ n) (length_reverse (digits 256 8 z) ∙ length_digits 256 8 z)
+    (number_below 256 back (below_reverse (digits 256 8 z) (below_digits 8 z)))
+
+-- and its first n bytes
 pub part_gives : (n w : ℕ) (k : Keystream) {v bits : ℕ} → n ≤ 8 → w < 2 ^ 64 → Gives 8 w k → bits ≡ 8 * n
     → v ≡ shifted 0 w bits → Gives n v k
 part_gives n w k {v} {bits} few small gives same e i h =
@@ -29,6 +54,11 @@ part_gives n w k {v} {bits} few small gives same e i h =
   where
     nothing : (x : ℕ) → 0 * 2 ^ 64 + x ≡ x
     nothing x = omega arith
+
+-- both, of a word of bits
+pub first_bytes : (n z : ℕ) (k : Keystream) → n ≤ 8 → Lowly 8 z k → Gives n (shifted 0 (swapped z) (8 * n)) k
+first_bytes n z k few gives =
+    part_gives n (swapped z) k few (swapped_below z) (swap_gives z k refl gives) refl refl
 
 -- m bytes from `at` under a word, where those before `at` are done
 pub covers_on : (k l : Keystream) (d e : List ℕ) (at m w : ℕ) {e' : List ℕ}
