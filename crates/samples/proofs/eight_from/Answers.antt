@@ -1,5 +1,6 @@
 -- `samples::eight_from` meets its contract: eight bytes that are there, in the other order.
 use Rattle.std.proofs.Common.{arith, ◌≡◌, ◌≢◌, ℕ, ◌+◌, ◌≤◌, List, length, min, ◌-◌, reverse, sym, ap, ◌∙◌, length-take, length-drop}
+use Rattle.std.proofs.lemmas.Bool.Decides.{nat_tests}
 use Rattle.std.specs.Int.{from_le_bytes, w64}
 use Rattle.octets.specs.{Buffers.slice, Digits.number}
 use Rattle.octets.proofs.Numbers.{Below, digits_read}
@@ -29,4 +30,5 @@ returns-in-None c =
     let s : List ℕ = c.args.s.now in
     let at : ℕ = c.args.at in
     let other : length c.slice.result.now ≢ 8 = c.in-None.ensures.cases in
-    sym (eight_short s at (omega (arith, ap length c.slice.ensures, long s at)))
+    let none = eight_short s at (omega (arith, ap length c.slice.ensures, long s at)) in
+    grind (arith, nat_tests, length-take, length-drop)

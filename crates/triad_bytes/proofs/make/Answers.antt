@@ -1,5 +1,5 @@
 -- The maker's number decides, and then the room.
-use Rattle.std.proofs.Common.{refl}
+use Rattle.std.proofs.Common.{refl, arith}
 use Rattle.std.proofs.lemmas.Result.{err_from_is_err_and}
 use Rattle.refusals.proofs.Answers.{never_accepted}
 use Rattle.record_bytes.proofs.Making.{made_refused, made_short, made_stored}
@@ -20,11 +20,11 @@ pub returns-then-cipher-lt-CIPHER_BYTES : goal.returns-then-cipher-lt-CIPHER_BYT
 unfolding triad_make making_cipher
 returns-then-cipher-lt-CIPHER_BYTES c =
     made_short _ _ _ (λ a. a.refusal) (λ a. triad_bytes a.next) _ _ tt refl (λ n. refl) c.in_ok-made.ensures refl
-    c.if-cipher-lt-CIPHER_BYTES.true
+    (omega arith)
 
 pub returns : goal.returns
 unfolding triad_make making_cipher
 returns c =
     made_stored _ _ _ (λ a. a.refusal) (λ a. triad_bytes a.next) _ _ tt refl (λ n. refl) c.in_ok-made.ensures refl
-    c.if-cipher-lt-CIPHER_BYTES.false (λ _. length_triad _)
+    (omega arith) (λ _. length_triad _)
     (triad_written _ _ refl c.write_six_words.ensures)
