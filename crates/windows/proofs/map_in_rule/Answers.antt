@@ -9,10 +9,10 @@ use Rattle.windows.specs.Windows.{window, marked, map_in_rule}
 use Rattle.windows.proofs.{Arrivals.by_test, Arrivals.in_rule_if, Windows.lowest}
 use Rattle.windows.proofs.map_in_rule.Goals as goal
 
--- a map that marks the count's own block is out of rule, whatever is left
-own_marked : (map left : ℕ) → map % 2 ≡ 1 → eqb (map % 2) 0 ≡ map_in_rule map left
+-- a map that marks the count's own block is out of rule, whatever is left: `own` is the number that tells
+own_marked : (map left : ℕ) {own : ℕ} → own ≢ 0 → map % 2 ≡ 1 → eqb own 0 ≡ map_in_rule map left
 unfolding map_in_rule
-own_marked map left odd = rw (lowest map, odd)
+own_marked map left {own} some odd = rw (ne_eqb own 0 some, lowest map, odd)
 
 own_free : (map : ℕ) → map % 2 ≢ 1 → marked map 0 ≡ false
 own_free map even = lowest map ∙ ne_eqb _ _ even
@@ -39,7 +39,7 @@ few_left map left even =
     ∙ ap (λ (b : Bool). not b && ltb map (2 ^ left)) (sym (own_free map even))
 
 pub returns-else-map-eq0 : goal.returns-else-map-eq0
-returns-else-map-eq0 c = own_marked _ _ (omega arith)
+returns-else-map-eq0 c = own_marked _ _ (omega arith) (omega arith)
 
 pub returns-then-left-ge-WINDOW : goal.returns-then-left-ge-WINDOW
 returns-then-left-ge-WINDOW c = many_left _ _ (omega arith) (omega arith) (omega arith)
