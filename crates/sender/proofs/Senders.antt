@@ -2,18 +2,18 @@
 use mathlib.Core.{Path.◌≡◌, Path.refl, Path.sym, Path.ap, Path.ap₂, Path.◌∙◌, Bool.true, Bool.false, List.List, List.[], List.◌∷◌}
 use Prim.Native.Nat.{ℕ, ◌+◌, ◌<◌, ◌≤◌}
 use native.Mathlib.Omega.{arith}
-use borrow.Author.Tests.{le-leb}
-use lib.ListN.{length}
+use borrow.Author.Tests.{le-leb, leb-true, ltb-true}
+use lib.{Dec.leb, ListN.length}
 use Rattle.std.specs.Prelude.{Option, Some, None, Ok, Err}
 use Rattle.std.specs.Option.{is_some}
 use Rattle.octets.specs.{Buffers.put, Rows.row, Stream.Cipher}
 use Rattle.octets.proofs.Buffers.{put_placed}
 use Rattle.refusals.specs.{Numbers.no_transfer, Outcome.outcome, Rules.AllRight, Answers.number_of}
 use Rattle.refusals.specs.{declared.Refusal.Refusal, declared.Refusal.TheVariants.NoTransfer}
-use Rattle.refusals.proofs.{Settled.done_if}
-use Rattle.blocks.specs.{Blocks.longest, Blocks.size, Blocks.block_of, Covering.covered}
+use Rattle.refusals.proofs.{Settled.done_if, Tests.and_first, Tests.and_second}
+use Rattle.blocks.specs.{Blocks.longest, Blocks.blocks, Blocks.size, Blocks.block_of, Covering.covered}
 use Rattle.blocks.proofs.Covering.{length_run}
-use Rattle.frames.specs.Frames.{opening, bytes}
+use Rattle.frames.specs.Frames.{opening, bytes, some}
 use Rattle.frames.proofs.FramesWritten.{length_short, short_opening, length_block}
 use Rattle.sender.specs.{Rules.phase_in_rule, Rules.sender_in_rule, declared.Phase.Phase, declared.Sender.Sender}
 use Rattle.sender.specs.Answers.{Sent, known_in, due_count, news}
@@ -67,6 +67,21 @@ news_some (Some known) e = omega arith
 pub news_none : (known : Option ℕ) → false ≡ is_some known → news known ≡ 0
 news_none None e = refl
 news_none (Some known) e = absurd cc
+
+-- in rule, a count that would be news is at most that of all blocks
+pub news_below : (s : Sender) → sender_in_rule s ≡ true → news_count s.phase ≤ blocks longest
+unfolding sender_in_rule phase_in_rule
+news_below s e =
+    let short = leb-true s.length longest (and_first (leb s.length longest) _ e) in
+    go s.phase (omega arith) (and_second (leb s.length longest) _ e)
+  where
+    go : (p : Phase) → s.length ≤ longest → phase_in_rule s.session s.length p ≡ true → news_count p ≤ blocks longest
+    go Idle h r = omega arith
+    go Opening h r = omega arith
+    go (Sending known) h r =
+        let below = ltb-true known (blocks s.length) (and_second (some s.session) _ r) in omega arith
+    go Done h r = omega arith
+    go (Refused why) h r = omega arith
 
 -- how many bytes are due
 pub length_due : (cipher : Cipher) (s : Sender) (sound : List ℕ) (known : Option ℕ) → s.phase ≡ phase_of known
