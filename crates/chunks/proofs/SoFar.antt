@@ -25,6 +25,12 @@ module _ {A : Type 0} (make : ℕ → ℕ → A) (k : Keystream) (body : List �
         done = nothing_read make k body output;
       }
 
+  -- the chunk `bytes`, with `rest` behind it, stands where the first `at` bytes end
+  pub chunk_at : {at : ℕ} {before : List ℕ} {here : Keystream} {left : List A} (bytes rest : List ℕ)
+      → SoFar at before here left → before ≡ bytes ++ rest → slice body at (length bytes) ≡ bytes
+  chunk_at bytes rest so cut =
+      ap (take (length bytes)) (sym so.behind ∙ cut) ∙ take_at bytes rest (length bytes) refl
+
   -- One chunk more, `bytes`, with `rest` behind it. It is read to the part of the output from its place on.
   pub one_more : {at : ℕ} {before : List ℕ} {here : Keystream} {left : List A} (bytes rest : List ℕ) {next : Keystream}
       {part : List A} → SoFar at before here left → length body / 2 ≤ length output → length left ≡ length output

@@ -1,13 +1,21 @@
 -- `chunks::read_samples` meets its contract: chunk after chunk, from where the cipher has come to.
-use Rattle.std.proofs.Common.{rules, arith, ◌≡◌, min, List, length, ap₂, ◌∙◌, ℤ}
+use Rattle.std.proofs.Common.{rules, arith, ◌≡◌, ℕ, min, List, length, ap₂, ◌∙◌, ℤ}
 use Rattle.std.specs.Slice.Iter.{chunks_rest}
-use Rattle.octets.specs.Stream.{Keystream}
+use mathlib.Core.Path.{subst}
+use Rattle.octets.specs.{Buffers.put, Stream.Keystream, Stream.from, Stream.enciphered}
 use Rattle.refusals.specs.Outcome.{outcome}
 use Rattle.refusals.proofs.Settled.{done_if, left_at}
-use Rattle.samples.specs.Words.{word_of}
+use Rattle.samples.specs.Words.{word_of, words_of}
 use Rattle.chunks.specs.Ahead.{ahead, reading_on}
-use Rattle.chunks.proofs.SoFar.{nothing_so_far, one_more, all_so_far}
+use Rattle.chunks.proofs.SoFar.{nothing_so_far, chunk_at, one_more, all_so_far}
 use Rattle.chunks.proofs.read_samples.Goals as goal
+
+-- what is read is the chunk, as the bytes that are lent are
+chunk_read : (k : Keystream) {next : Keystream} (d : List ℤ) {part : List ℤ} {lent bytes : List ℕ}
+    → (next ≡ from (length lent) k) × (part ≡ put d 0 (words_of (enciphered k lent))) → lent ≡ bytes
+    → (next ≡ from (length bytes) k) × (part ≡ put d 0 (words_of (enciphered k bytes)))
+chunk_read k {next} d {part} read same =
+    subst (λ (b : List ℕ). (next ≡ from (length b) k) × (part ≡ put d 0 (words_of (enciphered k b)))) same read
 
 pub returns-then-output-body : goal.returns-then-output-body
 unfolding reading_on
@@ -26,7 +34,9 @@ pub loop-bytes-preserved : goal.loop-bytes-preserved
 loop-bytes-preserved c =
     let so = c.loop-bytes.invariant in
     let steps = c.in-Some.ensures.steps in
-    let read = c.read_chunk-cipher.ensures in
+    let here = chunk_at word_of (ahead c.args.start) c.args.body.now c.args.output.now c.in-Some.bytes.now
+    (chunks_rest c.next.new.self) so.so_far steps.1.0 in
+    let read = chunk_read _ _ c.read_chunk-cipher.ensures (cc here) in
     let long : length c.in-Some.bytes.now ≡ min 1024 (length (chunks_rest c.loop-bytes.bytes-iterator)) =
     omega (arith, so.size, steps.1.1) in
     record {
