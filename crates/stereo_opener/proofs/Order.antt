@@ -52,17 +52,10 @@ told_first keyed samples room {flaw} is =
     ∙ sym (refused_at 0 (after_keyed (number_of flaw.refusal) samples room) (never_accepted flaw.refusal))
     ∙ ap (λ (k : Result Unit Flaw). (verdict_in k).number) (sym is)
 
-pub told_number : (keyed r : Result Unit Flaw) {flaw : Flaw} → keyed ≡ Err flaw → IsErrAnd r (λ y. y ≡ flaw)
-    → (verdict_in r).number ≡ (verdict_in keyed).number
-told_number keyed (Ok a) is e = absurd e
-told_number keyed (Err y) is e =
-    ap (λ (f : Flaw). number_of f.refusal) e ∙ ap (λ (k : Result Unit Flaw). (verdict_in k).number) (sym is)
-
-pub told_lacks : (keyed r : Result Unit Flaw) {flaw : Flaw} → keyed ≡ Err flaw → IsErrAnd r (λ y. y ≡ flaw)
-    → (verdict_in r).lacks ≡ (verdict_in keyed).lacks
-told_lacks keyed (Ok a) is e = absurd e
-told_lacks keyed (Err y) is e =
-    ap (λ (f : Flaw). f.lacks) e ∙ ap (λ (k : Result Unit Flaw). (verdict_in k).lacks) (sym is)
+pub told_same : (keyed r : Result Unit Flaw) {flaw : Flaw} → keyed ≡ Err flaw → IsErrAnd r (λ y. y ≡ flaw)
+    → verdict_in r ≡ verdict_in keyed
+told_same keyed (Ok a) is e = absurd e
+told_same keyed (Err y) is e = ap (λ (f : Flaw). verdict_of (number_of f.refusal) f.lacks) e ∙ ap verdict_in (sym is)
 
 -- ---- what is told of a file to one who has keys, and what is made of it for `frames_fault`
 

@@ -21,7 +21,7 @@ use refusals::{Flaw, Refusal};
 
 // The order: what one who has keys is told of a file, its tag's refusal too, then whether its samples are whole frames,
 // then the room for them.
-#[tactic(auto, using(crate::proofs::Order::told_first, crate::proofs::Order::told_number, crate::proofs::Order::told_lacks))]
+#[tactic(auto, using(crate::proofs::Order::told_first, crate::proofs::Order::told_same))]
 pub fn frames_fault(keyed: Result<(), Flaw>, samples: usize, room: usize) -> Result<(), Flaw>
     ensures order { (verdict_in result).number
         ≡ first (after_keyed (verdict_in keyed).number samples room) }
